@@ -1,0 +1,3 @@
+-- Definitions that the laws speak of.
+pub mod Range
+pub mod Placed

@@ -1,0 +1,93 @@
+// The words that every other crate speaks in: the wrapped numbers, the case record with the fields of the case file, and the answers.
+// Each wrapped number has one unit: megawatts, hours, mills (thousandths of a dollar) and half-mills never stand in for one another.
+// What a case, a list and an answer mean is defined in specs/; specs/Promises says what holds of the definitions.
+
+// Entries that a record has room for: outputs of a trajectory, hours of a day.
+pub const STAGES: usize = 8;
+
+pub const HOURS: usize = 48;
+
+// Signed 64-bit numbers that a search is lent to work in.
+pub const WORK: usize = 8192;
+
+// Megawatts: an output at the end of an hour, or the most that it may change in an hour.
+#[repr(C)]
+pub struct Output(pub u16);
+
+// Hours: the index of an hour of the day, from 0, or a count of hours.
+#[repr(C)]
+pub struct Hour(pub u16);
+
+// Mills: money per megawatt-hour, per hour, per start or per stop.
+#[repr(C)]
+pub struct Mills(pub i64);
+
+// Half-mills: what a list earns.
+#[repr(C)]
+pub struct HalfMills(pub i64);
+
+// A case. A sum of money keeps the width that it has in the file, and is wrapped where it is used.
+#[repr(C)]
+pub struct Case {
+    pub capacity: Output,
+    pub minimum: Output,
+    pub rampup: Output,
+    pub rampdown: Output,
+    pub minup: Hour,
+    pub mindown: Hour,
+    // F, in mills per megawatt-hour; A per on-line hour, B per start, C per stop, in mills
+    pub variable: u32,
+    pub fixed: u32,
+    pub startup: u32,
+    pub shutdown: u32,
+    // p(0), and h: the hours that the unit has been on-line or off-line before hour 1
+    pub initial: Output,
+    pub elapsed: Hour,
+    // PU and PD
+    pub rise: [Output; STAGES],
+    pub fall: [Output; STAGES],
+    // in mills per megawatt-hour; 0 free, 1 on-line, 2 off-line
+    pub prices: [u16; HOURS],
+    pub orders: [u8; HOURS],
+    // UD, DD and T: how many entries count
+    pub rises: usize,
+    pub falls: usize,
+    pub hours: usize,
+}
+
+// Whether a file or a record was accepted, or the number of its refusal.
+pub enum Outcome {
+    Accepted,
+    Refused(u8),
+}
+
+// The answer of `read` and `admit`: beside a refusal the record is all zeros.
+pub struct Reading {
+    pub outcome: Outcome,
+    pub case: Case,
+}
+
+// The answer of `write`: how many bytes were written, or the number of a refusal.
+pub enum Written {
+    Bytes(usize),
+    Refused(u8),
+}
+
+// An hour, and the number of the rule that is broken there.
+pub struct Breach {
+    pub hour: Hour,
+    pub rule: u8,
+}
+
+// The answer of `check`.
+pub enum Verdict {
+    Passes(HalfMills),
+    Breaks(Breach),
+    Refused(u8),
+}
+
+// The answer of `schedule`: what the list found earns, or the number of a refusal.
+pub enum Plan {
+    Found(HalfMills),
+    Refused(u8),
+}
