@@ -3,3 +3,4 @@ pub mod Signed
 pub mod Magnitude
 pub mod RangeLaws
 pub mod PlacedLaws
+pub mod Tests

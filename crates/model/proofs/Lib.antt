@@ -1,2 +1,9 @@
+-- Laws of the definitions, the known days, and the promises.
+pub mod LimitsLaws
 pub mod LayoutLaws
+pub mod KeepsLaws
+pub mod LeadsLaws
+pub mod TriedLaws
+pub mod CapacityLaws
+pub mod BestLaws
 pub mod Days

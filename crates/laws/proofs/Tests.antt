@@ -1,0 +1,40 @@
+-- What a test made of tests says. Assumes nothing.
+use mathlib.Core.Path.{_≡_, refl, sym}
+use mathlib.Core.Bool.{Bool, true, false, _&&_, _||_, false≢true}
+use mathlib.Core.Logic.{_⊎_, inl, inr}
+use lib.Dec.{T}
+
+-- conjunction
+pub and→both : (a b : Bool) → T (a && b) → T a × T b
+and→both true b t = (tt, t)
+and→both false b t = absurd t
+
+pub both→and : (a b : Bool) → T a → T b → T (a && b)
+both→and true b s t = t
+both→and false b s t = absurd s
+
+-- disjunction
+pub or→either : (a b : Bool) → T (a || b) → T a ⊎ T b
+or→either true b t = inl tt
+or→either false b t = inr t
+
+pub left→or : (a b : Bool) → T a → T (a || b)
+left→or true b t = tt
+left→or false b t = absurd t
+
+pub right→or : (a b : Bool) → T b → T (a || b)
+right→or true b t = tt
+right→or false b t = t
+
+-- a test that passes is true, one that does not is false
+pub T→true : (a : Bool) → T a → a ≡ true
+T→true true t = refl
+T→true false t = absurd t
+
+pub true→T : (a : Bool) → a ≡ true → T a
+true→T true e = tt
+true→T false e = absurd (false≢true e)
+
+pub false→not : (a : Bool) → a ≡ false → T a → ⊥
+false→not true e t = false≢true (sym e)
+false→not false e t = t
