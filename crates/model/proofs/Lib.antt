@@ -6,4 +6,6 @@ pub mod LeadsLaws
 pub mod TriedLaws
 pub mod CapacityLaws
 pub mod BestLaws
+pub mod ZeroedLaws
+pub mod WrittenLaws
 pub mod Days

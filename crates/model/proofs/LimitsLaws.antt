@@ -80,7 +80,7 @@ either : (a b : Bool) → a || b ≡ true → (a ≡ true) ⊎ (b ≡ true)
 either true b e = inl refl
 either false b e = inr e
 
-abbrev Between : ℕ → ℕ → ℕ → Type 0
+abbrev pub Between : ℕ → ℕ → ℕ → Type 0
 Between lo hi x = (lo ≤ x) × (x ≤ hi)
 
 within-true : (lo hi x : ℕ) → within lo hi x ≡ true → Between lo hi x
@@ -114,7 +114,7 @@ module _ (c : Case) where
       record { passes2 = a2; passes3 = a3; passes4 = a4; passes5 = a5; passes6 = a6; passes7 = a7; passes8 = a8 }
 
   -- what each test says
-  counts : refusal2 c ≡ false → Between 1 mostStages (UD c) × Between 1 mostStages (DD c) × Between 1 mostHours (last c)
+  pub counts : refusal2 c ≡ false → Between 1 mostStages (UD c) × Between 1 mostStages (DD c) × Between 1 mostHours (last c)
   unfolding refusal2
   counts e =
       let (a, r) = both (within 1 mostStages (UD c)) _ (not-false _ e) in

@@ -51,6 +51,10 @@ padded rest f n size = listed (λ i. cond (ltb i n) (f i) rest) size
 abbrev pub noOutput : Output
 noOutput = record { 0 = 0 }
 
+-- the first n entries of a trajectory
+unfoldable pub stageBytes : List Output → ℕ → List ℕ
+stageBytes l n = joined (λ i. bytes 2 (getD l i noOutput .0)) n
+
 -- the record of zeros
 unfoldable pub blank : Case
 blank =
@@ -100,10 +104,6 @@ module _ (c : Case) where
       ++ (bytes 4 (c .fixed)
       ++ (bytes 4 (c .startup)
       ++ (bytes 4 (c .shutdown) ++ (bytes 2 (c .initial .0) ++ bytes 2 (c .elapsed .0)))))))))))
-
-  -- the first n entries of a trajectory
-  unfoldable pub stageBytes : List Output → ℕ → List ℕ
-  stageBytes l n = joined (λ i. bytes 2 (getD l i noOutput .0)) n
 
   -- an hour: its price and its order byte
   unfoldable pub hourBytes : ℕ → List ℕ
