@@ -8,7 +8,7 @@ use native.Mathlib.Omega.{arith}
 use lib.Dec.{T, ltb, leb→le}
 use lib.ListN.{getD}
 use Rattle.model.specs.declared.Case.{Case}
-use Rattle.model.specs.Symbols.{sum, bit, stage, high, UD, PU, last}
+use Rattle.model.specs.Symbols.{sum, bit, stage, high, low, UD, DD, PU, PD, last}
 use Rattle.model.specs.Marks.{p, v, y}
 use Rattle.model.specs.Constraints.{starting, startOutput, rule3}
 use Rattle.model.specs.Rules.{rulesAt, brokenAt, keeps}
@@ -34,6 +34,13 @@ module _ (c : Case) (lim : Limits c) where
   unfolding stage
   rise-le zero h = omega arith
   rise-le (suc i) h = rise-from (UD c - suc i) (suc i) (omega arith) (omega arith)
+
+  -- no output of the shut-down trajectory is above the minimum
+  pub fall-le : (i : ℕ) → i ≤ DD c → PD c i ≤ low c
+  unfolding stage
+  fall-le zero h = omega arith
+  fall-le (suc zero) h = omega (arith, lim .fall-top)
+  fall-le (suc (suc i)) h = omega (arith, lim .fall-down (suc i) (omega arith) h, fall-le (suc i) (omega arith))
 
   weighted-le : (f : ℕ → ℕ) (n : ℕ) → n ≤ UD c → sum (λ i. PU c i * f i) n ≤ high c * sum f n
   unfolding sum

@@ -3,13 +3,13 @@ use mathlib.Core.Path.{_≡_, refl, sym, ap, _∙_, subst}
 use mathlib.Core.Bool.{Bool, true, false, cond}
 use mathlib.Core.Logic.{⊎-elim}
 use mathlib.Core.List.{List, [], _∷_, _++_}
-use Prim.Native.Nat.{ℕ, zero, suc, _+_, _*_, _/_, _%_, _^_, _≤_, _<_}
+use Prim.Native.Nat.{ℕ, zero, suc, _+_, _*_, _-_, _/_, _%_, _^_, _≤_, _<_}
 use native.Mathlib.Nat.{eq-or-lt-of-le, pow-suc, one-le-pow, mul-suc, mul-zero, mul-le-mul-left}
 use native.Mathlib.Omega.{arith}
 use borrow.Author.Tests.{lt-ltb, le-ltb, ltb-true}
 use lib.Dec.{ltb}
 use lib.ListN.{length, getD, take, drop, length-append, length-take, length-drop, take-append-drop, List·getD-append}
-use lib.Seq.{getD-at, getD-drop, take-append-le, drop-append-le, drop-at, drop-drop, take-all, take-add, drop-cons, ext-getD}
+use lib.Seq.{getD-at, getD-drop, take-append-le, drop-append-le, drop-at, drop-drop, drop-nil, take-nil, take-take, take-all, take-add, drop-cons, ext-getD}
 use Rattle.model.specs.Layout.{number, numberAt, listed, joined, bytes, padded}
 
 -- ---- arrays by index
@@ -156,6 +156,21 @@ numberAt-suc s at w h = rw (drop-cons s at 0 h)
 pub numberAt-zero : (s : List ℕ) (at : ℕ) → numberAt s at 0 ≡ 0
 unfolding numberAt number
 numberAt-zero s at = refl
+
+-- a number within a part of a list
+drop-take : {X : Type 0} (k w : ℕ) (s : List X) → drop k (take w s) ≡ take (w - k) (drop k s)
+drop-take zero w s = ap (λ n. take n s) (let e : w ≡ w - 0 = omega arith in e)
+drop-take (suc k) zero s = drop-nil (suc k) ∙ ap (λ n. take n (drop (suc k) s)) (let e : 0 ≡ 0 - suc k = omega arith in e)
+drop-take (suc k) (suc w) [] = sym (take-nil (suc w - suc k))
+drop-take (suc k) (suc w) (x ∷ s) = drop-take k w s ∙ ap (λ n. take n (drop k s)) (let e : w - k ≡ suc w - suc k = omega arith in e)
+
+pub numberAt-part : (s : List ℕ) (at w k m : ℕ) → k + m ≤ w → numberAt s (at + k) m ≡ numberAt (take w (drop at s)) k m
+unfolding numberAt
+numberAt-part s at w k m h =
+    let e : drop (at + k) s ≡ drop k (drop at s) = sym (drop-drop k at s) in
+    ap (λ t. number (take m t)) e
+    ∙ ap number (sym (take-take m (w - k) (drop k (drop at s)) (omega arith)))
+    ∙ ap (λ t. number (take m t)) (sym (drop-take k w (drop at s)))
 
 -- ---- parts end to end
 module _ (w : ℕ) (f : ℕ → List ℕ) (wide : (i : ℕ) → length (f i) ≡ w) where

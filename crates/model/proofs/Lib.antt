@@ -8,4 +8,5 @@ pub mod CapacityLaws
 pub mod BestLaws
 pub mod ZeroedLaws
 pub mod WrittenLaws
+pub mod RereadLaws
 pub mod Days
