@@ -26,6 +26,19 @@ pub right→or : (a b : Bool) → T b → T (a || b)
 right→or true b t = tt
 right→or false b t = t
 
+-- the same of outcomes
+pub both : (a b : Bool) → a && b ≡ true → (a ≡ true) × (b ≡ true)
+both true b e = (refl, e)
+both false b e = absurd (false≢true e)
+
+pub neither : (a b : Bool) → a || b ≡ false → (a ≡ false) × (b ≡ false)
+neither true b e = absurd (false≢true (sym e))
+neither false b e = (refl, e)
+
+pub either : (a b : Bool) → a || b ≡ true → (a ≡ true) ⊎ (b ≡ true)
+either true b e = inl refl
+either false b e = inr e
+
 -- a test that passes is true, one that does not is false
 pub T→true : (a : Bool) → T a → a ≡ true
 T→true true t = refl

@@ -118,10 +118,14 @@ number-lt zero s a = omega arith
 number-lt (suc w) [] a = one-le-pow (suc w) 256 (omega arith)
 number-lt (suc w) (b ∷ s) a = omega (arith, a .byte 0, number-lt w s (tail-bytes a), pow-suc 256 w)
 
-take-bytes : (n : ℕ) (s : List ℕ) → AllBytes s → AllBytes (take n s)
+pub take-bytes : (n : ℕ) (s : List ℕ) → AllBytes s → AllBytes (take n s)
 take-bytes zero s a = record { byte = λ i. omega arith }
 take-bytes (suc n) [] a = a
 take-bytes (suc n) (b ∷ s) a = cons-bytes (a .byte 0) (take-bytes n s (tail-bytes a))
+
+-- a part, and what follows it
+pub part-next : (s : List ℕ) (at w : ℕ) {rest : List ℕ} → rest ≡ drop (at + w) s → take w (drop at s) ++ rest ≡ drop at s
+part-next s at w e = ap (λ t. take w (drop at s) ++ t) (e ∙ sym (drop-drop w at s)) ∙ take-append-drop w (drop at s)
 
 module _ {s : List ℕ} (a : AllBytes s) where
   -- the bytes of the number at an offset are the part there
@@ -135,9 +139,7 @@ module _ {s : List ℕ} (a : AllBytes s) where
   -- fields one after the other make up the rest of a list
   pub bytes-next : (at w : ℕ) {rest : List ℕ} → at + w ≤ length s → rest ≡ drop (at + w) s
       → bytes w (numberAt s at w) ++ rest ≡ drop at s
-  bytes-next at w {rest} h e =
-      ap (λ t. t ++ rest) (bytes-numberAt at w h) ∙ ap (λ t. take w (drop at s) ++ t) (e ∙ sym (drop-drop w at s))
-      ∙ take-append-drop w (drop at s)
+  bytes-next at w {rest} h e = ap (λ t. t ++ rest) (bytes-numberAt at w h) ∙ part-next s at w e
 
   pub bytes-last : (at w : ℕ) → at + w ≡ length s → bytes w (numberAt s at w) ≡ drop at s
   bytes-last at w h =

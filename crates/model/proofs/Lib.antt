@@ -9,4 +9,6 @@ pub mod BestLaws
 pub mod ZeroedLaws
 pub mod WrittenLaws
 pub mod RereadLaws
+pub mod RewrittenLaws
+pub mod AcceptedLaws
 pub mod Days

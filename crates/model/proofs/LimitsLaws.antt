@@ -1,13 +1,14 @@
 -- What a case within the limits keeps to, as plain inequalities: a case that none of the refusals 2 to 8 applies to
 -- (document 01, "Refusal list") has all of them. Assumes nothing.
-use mathlib.Core.Path.{_≡_, refl, sym, ap, _∙_, subst}
-use mathlib.Core.Logic.{_⊎_, inl, inr, ⊎-elim}
-use mathlib.Core.Bool.{Bool, true, false, _&&_, _||_, not, cond, true≢false}
+use mathlib.Core.Path.{_≡_, refl, sym, ap, _∙_}
+use mathlib.Core.Logic.{⊎-elim}
+use mathlib.Core.Bool.{Bool, true, false, _&&_, _||_, not, cond}
 use Prim.Native.Nat.{ℕ, zero, suc, _-_, _≤_, _<_}
 use native.Mathlib.Omega.{arith}
 use native.Mathlib.Nat.{le-suc-iff}
 use borrow.Author.Tests.{leb-true, ltb-true, ltb-false, lt-ltb, eqb-true, not-false}
 use lib.Dec.{leb, ltb, eqb}
+use Rattle.laws.proofs.Tests.{both, neither, either}
 use Rattle.model.specs.declared.Case.{Case}
 use Rattle.model.specs.Limits.{mostStages, mostHours, mostOutput, mostTime, mostElapsed, mostVariable, mostCharge}
 use Rattle.model.specs.Symbols.{every, high, low, RU, RD, UD, DD, PU, PD, last, order, F, A, B, C, p0, h}
@@ -67,19 +68,6 @@ pub record Passed (c : Case) : Type 0 where
   pub passes7 : refusal7 c ≡ false
   pub passes8 : refusal8 c ≡ false
 
--- tests that are joined
-both : (a b : Bool) → a && b ≡ true → (a ≡ true) × (b ≡ true)
-both true b e = (refl, e)
-both false b e = absurd (true≢false (sym e))
-
-neither : (a b : Bool) → a || b ≡ false → (a ≡ false) × (b ≡ false)
-neither true b e = absurd (true≢false e)
-neither false b e = (refl, e)
-
-either : (a b : Bool) → a || b ≡ true → (a ≡ true) ⊎ (b ≡ true)
-either true b e = inl refl
-either false b e = inr e
-
 abbrev pub Between : ℕ → ℕ → ℕ → Type 0
 Between lo hi x = (lo ≤ x) × (x ≤ hi)
 
@@ -96,7 +84,7 @@ every-true f (suc n) e i a b =
     ⊎-elim (λ (l : i ≤ n). every-true f n x i a l) (λ (q : i ≡ suc n). ap f q ∙ y) (le-suc-iff .0 b)
 
 -- the first of two numbers
-first-zero : (n : ℕ) (t : Bool) (r : ℕ) → cond t (suc n) r ≡ 0 → (t ≡ false) × (r ≡ 0)
+pub first-zero : (n : ℕ) (t : Bool) (r : ℕ) → cond t (suc n) r ≡ 0 → (t ≡ false) × (r ≡ 0)
 first-zero n true r e = absurd (omega arith)
 first-zero n false r e = (refl, e)
 
