@@ -14,11 +14,11 @@ use Rattle.model.specs.declared.Reading.{Reading}
 use Rattle.model.specs.declared.Outcome.{Outcome}
 use Rattle.model.specs.declared.Outcome.the-variants.{Accepted, Refused}
 use Rattle.model.specs.Limits.{mostStages, mostHours}
-use Rattle.model.specs.Layout.{numberAt, offsetAt, lengthAt, endAt, joined, bytes, noOutput, blank, stageBytes, pairBytes, unitBytes, hourBytes, bytesOf, sectionAt, caseOf}
+use Rattle.model.specs.Layout.{AllBytes, numberAt, offsetAt, lengthAt, endAt, joined, bytes, noOutput, blank, stageBytes, pairBytes, unitBytes, hourBytes, bytesOf, sectionAt, caseOf}
 use Rattle.model.specs.Refusals.{within, refusal1, misfits, refusal2File, firstOf, tests, refusalOf}
 use Rattle.model.specs.Answers.{readingOf, readOf}
 use Rattle.model.proofs.LimitsLaws.{first-zero}
-use Rattle.model.proofs.LayoutLaws.{AllBytes, take-bytes, drop-bytes, part-next, numberAt-part, getD-padded-in}
+use Rattle.model.proofs.LayoutLaws.{take-bytes, drop-bytes, part-next, numberAt-part, getD-padded-in}
 use Rattle.model.proofs.RewrittenLaws.{pairs-rewritten, unit-rewritten, stages-rewritten, hours-rewritten}
 
 -- its sections follow one another to its end, with whole entries
@@ -197,3 +197,6 @@ read-accepted file e =
 
 pub read-writes : (file : List ℕ) → AllBytes file → readOf file .outcome ≡ Accepted → bytesOf (readOf file .case) ≡ file
 read-writes file a e = let r = read-accepted file e in rw (r .record-is) (bytesOf-caseOf file (r .whole-file) a)
+
+pub read-limits : (file : List ℕ) → readOf file .outcome ≡ Accepted → refusalOf (readOf file .case) ≡ 0
+read-limits file e = let r = read-accepted file e in rw (r .record-is) (r .limited)

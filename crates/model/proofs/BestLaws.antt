@@ -1,10 +1,11 @@
 -- Trying every list up to the capacity gives the best list, or none exactly where no list keeps every rule; and there is one best list
 -- only. Assumes nothing.
-use mathlib.Core.Path.{_≡_, refl, sym, ap}
+use mathlib.Core.Path.{_≡_, refl, sym, ap, subst}
 use mathlib.Core.Logic.{_⊎_, inl, inr}
 use mathlib.Core.List.{List, List·Memᴰ}
 use mathlib.Core.Option.{Option, none, some}
 use Prim.Native.Nat.{ℕ}
+use native.Mathlib.Omega.{arith}
 use lib.Dec.{T}
 use Rattle.model.specs.declared.Case.{Case}
 use Rattle.model.specs.Symbols.{high, last}
@@ -52,3 +53,18 @@ bestOf-some c e b = answers-unique (bestOf-answers c e) (best-list b)
 
 pub bestOf-none : (c : Case) → refusalOf c ≡ 0 → ((l : List ℕ) → T (keeps c l) → ⊥) → bestOf c ≡ none
 bestOf-none c e h = answers-unique (bestOf-answers c e) (no-list h)
+
+-- and back
+pub best-of-bestOf : (c : Case) {l : List ℕ} → refusalOf c ≡ 0 → bestOf c ≡ some l → Best c l
+best-of-bestOf c {l} e d = go (bestOf c) d (bestOf-answers c e)
+  where
+    go : (r : Option (List ℕ)) → r ≡ some l → Answers c r → Best c l
+    go none d (no-list h) = absurd (let z : _≡_ {A = ℕ} 0 1 = cc in omega arith)
+    go (some m) d (best-list b) = let q : m ≡ l = cc in subst (Best c) q b
+
+pub none-of-bestOf : (c : Case) → refusalOf c ≡ 0 → bestOf c ≡ none → (l : List ℕ) → T (keeps c l) → ⊥
+none-of-bestOf c e d = go (bestOf c) d (bestOf-answers c e)
+  where
+    go : (r : Option (List ℕ)) → r ≡ none → Answers c r → (l : List ℕ) → T (keeps c l) → ⊥
+    go none d (no-list h) l k = h l k
+    go (some m) d (best-list b) l k = let z : _≡_ {A = ℕ} 0 1 = cc in omega arith

@@ -6,11 +6,12 @@ use mathlib.Core.Option.{some}
 use Prim.Native.Nat.{ℕ, zero, suc, _+_, _≤_, _<_}
 use native.Mathlib.Nat.{add-zero, zero-add}
 use native.Mathlib.Omega.{arith}
-use borrow.Author.Tests.{eqb-true, eq-eqb}
+use borrow.Author.Tests.{eqb-true, eqb-false, eq-eqb}
 use lib.Dec.{T, eqb, eqb→eq}
 use lib.ListN.{length}
 use Rattle.laws.proofs.Tests.{and→both, both→and, true→T, T→true}
 use Rattle.model.specs.declared.Case.{Case}
+use Rattle.model.specs.declared.Breach.{Breach}
 use Rattle.model.specs.Symbols.{last}
 use Rattle.model.specs.Rules.{brokenOf, brokenAt, breachFrom, breach, isNone, keeps}
 
@@ -65,3 +66,23 @@ module _ (c : Case) (l : List ℕ) where
   kept-of-unbroken e h =
       both→and (eqb (length l) (last c)) (isNone (breach c l)) (true→T (eqb (length l) (last c)) (eq-eqb (length l) (last c) e))
       (from-none (suc (last c)) 0 (λ i p. ap (brokenAt c l) (zero-add i) ∙ h i (omega arith)))
+
+  -- a breach has a rule's number, and that is above 0
+  rule-from : (n k : ℕ) (b : Breach) → breachFrom c l k n ≡ some b → b .rule ≡ 0 → ⊥
+  unfolding breachFrom
+  rule-from zero k b e z = let q : _≡_ {A = ℕ} 0 1 = cc in omega arith
+  rule-from (suc n) k b e z = go (eqb (brokenAt c l k) 0) refl e (rule-from n (suc k) b)
+    where
+      here : Breach
+      here = record { hour = record { 0 = k }; rule = brokenAt c l k }
+
+      go : (t : Bool) → eqb (brokenAt c l k) 0 ≡ t → cond t (breachFrom c l (suc k) n) (some here) ≡ some b
+          → (breachFrom c l (suc k) n ≡ some b → b .rule ≡ 0 → ⊥) → ⊥
+      go true d e ih = ih e z
+      go false d e ih =
+          let same : here ≡ b = cc in
+          eqb-false (brokenAt c l k) 0 d (ap (λ (x : Breach). x .rule) same ∙ z)
+
+  pub breach-rule : (b : Breach) → breach c l ≡ some b → b .rule ≡ 0 → ⊥
+  unfolding breach
+  breach-rule b e z = rule-from (suc (last c)) 0 b e z

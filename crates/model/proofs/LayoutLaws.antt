@@ -10,7 +10,7 @@ use borrow.Author.Tests.{lt-ltb, le-ltb, ltb-true}
 use lib.Dec.{ltb}
 use lib.ListN.{length, getD, take, drop, length-append, length-take, length-drop, take-append-drop, List·getD-append}
 use lib.Seq.{getD-at, getD-drop, take-append-le, drop-append-le, drop-at, drop-drop, drop-nil, take-nil, take-take, take-all, take-add, drop-cons, ext-getD}
-use Rattle.model.specs.Layout.{number, numberAt, listed, joined, bytes, padded}
+use Rattle.model.specs.Layout.{number, numberAt, AllBytes, listed, joined, bytes, padded}
 
 -- ---- arrays by index
 module _ {X : Type 0} (f : ℕ → X) where
@@ -85,10 +85,6 @@ number-bytes zero n h = omega arith
 number-bytes (suc w) n h =
     let e = pow-suc 256 w in
     omega (arith, number-bytes w (n / 256) (omega arith))
-
--- each entry is a byte
-pub record AllBytes (s : List ℕ) : Type 0 where
-  pub byte : (i : ℕ) → getD s i 0 < 256
 
 pub tail-bytes : {b : ℕ} {s : List ℕ} → AllBytes (b ∷ s) → AllBytes s
 tail-bytes a = record { byte = λ i. a .byte (suc i) }

@@ -6,8 +6,8 @@ use native.Mathlib.Omega.{arith}
 use lib.ListN.{length, getD, take, drop}
 use lib.Seq.{take-add, drop-drop}
 use Rattle.model.specs.declared.Output.{Output}
-use Rattle.model.specs.Layout.{numberAt, joined, bytes, noOutput, stageBytes}
-use Rattle.model.proofs.LayoutLaws.{AllBytes, bytes-numberAt, bytes-next, bytes-last, numberAt-lt, joined-same, joined-parts}
+use Rattle.model.specs.Layout.{AllBytes, numberAt, joined, bytes, noOutput, stageBytes}
+use Rattle.model.proofs.LayoutLaws.{bytes-numberAt, bytes-next, bytes-last, numberAt-lt, joined-same, joined-parts}
 
 -- eight 16-bit numbers make up 16 bytes
 pub pairs-rewritten : (s : List ℕ) → AllBytes s → length s ≡ 16

@@ -1,7 +1,7 @@
 -- The case file (document 01, "Case file"): the bytes of a case, and the case of a file, by offsets. Definitions only. Assumes nothing.
 use mathlib.Core.Bool.{cond}
 use mathlib.Core.List.{List, [], _∷_, _++_}
-use Prim.Native.Nat.{ℕ, zero, suc, _+_, _*_, _/_, _%_}
+use Prim.Native.Nat.{ℕ, zero, suc, _+_, _*_, _/_, _%_, _<_}
 use lib.Dec.{ltb}
 use lib.ListN.{getD, take, drop, replicate}
 use Rattle.model.specs.declared.Case.{Case}
@@ -27,6 +27,10 @@ lengthAt file i = numberAt file (4 * i + 2) 2
 -- where section i ends
 unfoldable pub endAt : List ℕ → ℕ → ℕ
 endAt file i = offsetAt file i + lengthAt file i
+
+-- every entry is a byte
+pub record AllBytes (s : List ℕ) : Type 0 where
+  pub byte : (i : ℕ) → getD s i 0 < 256
 
 -- f 0, .., f (n − 1)
 unfoldable pub listed : {X : Type 0} → (ℕ → X) → ℕ → List X
