@@ -129,8 +129,8 @@ furtherDays =
     ∷ check (dayOf known 0 2 (at 10 0 ∷ at 10 0 ∷ [])) (1 ∷ 0 ∷ []) (breaks 0 4)
     -- a list of another length, whatever it holds
     ∷ check (dayOf known 0 2 (at 10 0 ∷ at 10 0 ∷ [])) (0 ∷ []) (refuses 9)
-    -- 3 applies before 6
-    ∷ best (dayOf (record { least = 5; ramp = 1; rest = 1; up = 1 ∷ []; down = 1 ∷ [] }) 0 2 (at 10 0 ∷ [])) (refuses 3)
+    -- 3, 4 and 6 apply, and 3 is returned
+    ∷ best (dayOf (record { least = 5; ramp = 0; rest = 1; up = 1 ∷ []; down = 1 ∷ [] }) 0 2 (at 10 0 ∷ [])) (refuses 3)
     ∷ []
 
 -- the answers to some rows, each from the file of its case, are those expected
