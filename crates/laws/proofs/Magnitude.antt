@@ -1,5 +1,5 @@
--- Magnitudes: what bounds a sum, a difference and a multiple, when a number fits 64 bits, and what an operation of the machine on such
--- numbers is. Assumes nothing.
+-- Magnitudes: what bounds a sum, a difference and a multiple, when a number fits 64 bits, and what an operation of
+-- the machine on such numbers is. Assumes nothing.
 use mathlib.Core.Path.{_≡_, refl, sym, ap, _∙_}
 use Prim.Native.Nat.{ℕ, zero, suc, _+_, _*_, _≤_, _<_, _^_}
 use native.Mathlib.Nat.{mul-le-mul, zero-mul}

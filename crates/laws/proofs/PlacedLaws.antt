@@ -23,7 +23,8 @@ module _ {A : Type 0} (d : A) where
     there k n = getD-set-other ys at k x d n
 
   module _ {xs ys : List A} {at a b : ℕ} {v : ℕ → A} (x : A) where
-    pub part-up : Part d xs ys at a b v → a ≤ b → at + b < length xs → x ≡ v b → Part d xs (set ys (at + b) x) at a (b + 1) v
+    pub part-up : Part d xs ys at a b v → a ≤ b → at + b < length xs → x ≡ v b
+        → Part d xs (set ys (at + b) x) at a (b + 1) v
     part-up p h room e =
         let r : at + b < length ys = omega (arith, p .long) in
         record {
@@ -32,7 +33,8 @@ module _ {A : Type 0} (d : A) where
               (λ q. here ys (at + b) x r (at + k) (omega arith) ∙ e ∙ ap v (sym q))
               (λ q. there ys (at + b) x r (at + k) (λ z. omega arith) ∙ p .done k l q)
               (eq-or-lt-of-le (let w : k ≤ b = omega arith in w));
-          other = λ k off. there ys (at + b) x r k (off b h (omega arith)) ∙ p .other k (λ j l m. off j l (omega arith));
+          other = λ k off. there ys (at + b) x r k (off b h (omega arith))
+              ∙ p .other k (λ j l m. off j l (omega arith));
         }
 
     pub part-down : Part d xs ys at (a + 1) b v → a < b → at + a < length xs → x ≡ v a
@@ -45,7 +47,8 @@ module _ {A : Type 0} (d : A) where
               (λ q. here ys (at + a) x r (at + k) (omega arith) ∙ e ∙ ap v q)
               (λ q. there ys (at + a) x r (at + k) (λ z. omega arith) ∙ p .done k (omega arith) m)
               (eq-or-lt-of-le l);
-          other = λ k off. there ys (at + a) x r k (off a (omega arith) h) ∙ p .other k (λ j l m. off j (omega arith) m);
+          other = λ k off. there ys (at + a) x r k (off a (omega arith) h)
+              ∙ p .other k (λ j l m. off j (omega arith) m);
         }
 
 module _ {A : Type 0} where

@@ -110,7 +110,8 @@ module _ (floor : ℤ) (f : ℕ → ℤ) where
   largest-empty = over-empty larger floor f
 
   -- two ranges that meet
-  pub largest-join : (a b c : ℕ) → a ≤ b → b ≤ c → larger (largest floor f a b) (largest floor f b c) ≡ largest floor f a c
+  pub largest-join : (a b c : ℕ) → a ≤ b → b ≤ c
+      → larger (largest floor f a b) (largest floor f b c) ≡ largest floor f a c
   largest-join a b c h k =
       let e : c - a ≡ (b - a) + (c - b) = omega arith in
       let s : a + (b - a) ≡ b = omega arith in
@@ -140,7 +141,8 @@ module _ (floor : ℤ) (f : ℕ → ℤ) where
       go (suc m) = let e = go m in let k = h (a + m) (omega arith) in let u = larger-of-le (≤ℤ-refl floor) in cc
 
   -- nothing counts from n on, so a range may end there
-  pub largest-clip : (n a b : ℕ) → ((j : ℕ) → n ≤ j → f j ≡ floor) → a < n → largest floor f a b ≡ largest floor f a (min b n)
+  pub largest-clip : (n a b : ℕ) → ((j : ℕ) → n ≤ j → f j ≡ floor) → a < n
+      → largest floor f a b ≡ largest floor f a (min b n)
   largest-clip n a b h k = go (leb b n) refl
     where
       go : (t : Bool) → leb b n ≡ t → largest floor f a b ≡ largest floor f a (min b n)
@@ -148,4 +150,5 @@ module _ (floor : ℤ) (f : ℕ → ℤ) where
       go false t =
           let e : min b n ≡ n = omega (arith, leb-false b n t) in
           let j = largest-join a n b (omega arith) (omega (arith, leb-false b n t)) in
-          rw e (sym j ∙ ap (λ (x : ℤ). larger (largest floor f a n) x) (largest-floor-only n b h) ∙ larger-of-ge (largest-floor a n))
+          rw e (sym j ∙ ap (λ (x : ℤ). larger (largest floor f a n) x) (largest-floor-only n b h) ∙ larger-of-ge
+          (largest-floor a n))

@@ -1,5 +1,5 @@
--- Signed numbers made linear for omega: up z and down z are naturals with z = up z − down z, and each order, equation, sum, difference
--- and multiple of signed numbers is a linear fact about those. Assumes nothing.
+-- Signed numbers made linear for omega: up z and down z are naturals with z = up z − down z, and each order,
+-- equation, sum, difference and multiple of signed numbers is a linear fact about those. Assumes nothing.
 use mathlib.Core.Path.{_≡_, refl, sym, ap, _∙_, subst}
 use mathlib.Core.Bool.{Bool, true, false, not, cond}
 use Prim.Native.Nat.{ℕ, zero, suc, _+_, _*_, _-_, _≤_, _<_}

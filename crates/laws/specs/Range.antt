@@ -1,4 +1,5 @@
--- The join of a function's values over a range, and the largest of numbers over a range. Definitions only. Assumes nothing.
+-- The join of a function's values over a range, and the largest of numbers over a range. Definitions only. Assumes
+-- nothing.
 use mathlib.Core.Bool.{cond}
 use Prim.Native.Nat.{ℕ, zero, suc, _+_, _-_}
 use lib.IntN.{ℤ}

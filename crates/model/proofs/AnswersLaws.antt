@@ -1,5 +1,5 @@
--- What the check and the search answer for a record within the limits, and for one with the entries past its counts zero.
--- Assumes nothing.
+-- What the check and the search answer for a record within the limits, and for one with the entries past its counts
+-- zero. Assumes nothing.
 use mathlib.Core.Path.{_≡_, refl, sym, ap, _∙_, subst}
 use mathlib.Core.Bool.{Bool, true, false, not, cond, _||_}
 use mathlib.Core.List.{List, [], _∷_, _++_}
@@ -23,7 +23,8 @@ use Rattle.model.specs.Profit.{profitOf}
 use Rattle.model.specs.Best.{Best, bestOf}
 use Rattle.model.specs.Layout.{zeroed}
 use Rattle.model.specs.Refusals.{refusal2, refusal9, refusal10, firstOf, tests, refusalOf}
-use Rattle.model.specs.Answers.{judged, checkedOf, checkOf, planned, scheduledOf, scheduleOf, verdictNumber, verdictRule, planNumber}
+use Rattle.model.specs.Answers.{judged, checkedOf, checkOf, planned, scheduledOf, scheduleOf, verdictNumber}
+use Rattle.model.specs.Answers.{verdictRule, planNumber}
 use Rattle.model.specs.Promises.{PassesWith, FindsList, FindsNone}
 use Rattle.model.proofs.RefusalsLaws.{firstOf-tests}
 use Rattle.model.proofs.KeepsLaws.{kept-length, breach-rule}
@@ -66,7 +67,8 @@ module _ (c : Case) (l : List ℕ) (e : refusalOf c ≡ 0) where
   unfolding keeps judged
   keeps-of-passes w =
       let h = measured (w .unrefused) in
-      both→and (eqb (length l) (last c)) (isNone (breach c l)) (true→T _ (eq-eqb (length l) (last c) h)) (go h (breach c l) refl)
+      both→and (eqb (length l) (last c)) (isNone (breach c l)) (true→T _ (eq-eqb (length l) (last c) h))
+      (go h (breach c l) refl)
     where
       go : length l ≡ last c → (x : Option Breach) → breach c l ≡ x → T (isNone x)
       go h none d = tt
@@ -114,7 +116,8 @@ module _ (c : Case) (work : List ℤ) (outputs : List ℕ) (e : refusalOf c ≡ 
           settle : (r : Option (List ℕ)) → bestOf c ≡ r → Answers c r → ⊥
           settle none d (no-list h) = h l k
           settle (some m) d (best-list b) =
-              let q = sym (ap (λ s. planNumber (s .answer)) (searched ∙ ap (planned c work outputs) d)) ∙ f .eleven in omega arith
+              let q = sym (ap (λ s. planNumber (s .answer)) (searched ∙ ap (planned c work outputs) d))
+              ∙ f .eleven in omega arith
 
 -- ---- entries past a count
 module _ (c : Case) where
@@ -155,4 +158,5 @@ module _ (c : Case) where
 
       go : (t : Bool) → refusal2 c ≡ t → scheduledOf (zeroed c) work outputs ≡ scheduledOf c work outputs
       go true e = rw (tests-zeroed c more, second more e)
-      go false e = rw (tests-zeroed c more, bestOf-zeroed c (roomy c e), planned-zeroed (roomy c e) work outputs (bestOf c))
+      go false e = rw
+          (tests-zeroed c more, bestOf-zeroed c (roomy c e), planned-zeroed (roomy c e) work outputs (bestOf c))

@@ -1,9 +1,10 @@
--- The order among lists is total on lists of one length, so trying every list finds the best, and there is one best list only.
--- Assumes nothing.
+-- The order among lists is total on lists of one length, so trying every list finds the best, and there is one best
+-- list only. Assumes nothing.
 use mathlib.Core.Path.{_≡_, refl, sym, ap, _∙_, subst}
 use mathlib.Core.Logic.{_⊎_, inl, inr, ⊎-elim}
 use mathlib.Core.Bool.{Bool, true, false, _&&_, _||_, cond}
-use mathlib.Core.List.{List, [], _∷_, _++_, map, List·Memᴰ, List·Memᴰ·head, List·Memᴰ·tail, List·Memᴰ·cases-cons, List·Memᴰ·not-nil, Memᴰ·append-left, Memᴰ·append-right}
+use mathlib.Core.List.{List, [], _∷_, _++_, map, List·Memᴰ, List·Memᴰ·head, List·Memᴰ·tail, List·Memᴰ·cases-cons}
+use mathlib.Core.List.{List·Memᴰ·not-nil, Memᴰ·append-left, Memᴰ·append-right}
 use mathlib.Core.Option.{Option, none, some}
 use Prim.Native.Nat.{ℕ, zero, suc, _+_, _≤_, _<_}
 use native.Mathlib.Nat.{eq-or-lt-of-le}
@@ -35,7 +36,8 @@ lower-less a b l m h = left→or (ltb a b) (eqb a b && lower l m) (lt→ltb a b 
 lower-same : (a b : ℕ) (l m : List ℕ) → a ≡ b → T (lower l m) → T (lower (a ∷ l) (b ∷ m))
 unfolding lower
 lower-same a b l m e t =
-    right→or (ltb a b) (eqb a b && lower l m) (both→and (eqb a b) (lower l m) (subst (λ x. T (eqb a x)) e (eqb-refl a)) t)
+    right→or (ltb a b) (eqb a b && lower l m)
+    (both→and (eqb a b) (lower l m) (subst (λ x. T (eqb a x)) e (eqb-refl a)) t)
 
 lower-asym : (l m : List ℕ) → T (lower l m) → T (lower m l) → ⊥
 unfolding lower
@@ -43,7 +45,8 @@ lower-asym [] m s t = s
 lower-asym (a ∷ l) [] s t = s
 lower-asym (a ∷ l) (b ∷ m) s t = go (lower-cons a b l m s) (lower-cons b a m l t) (lower-asym l m)
   where
-    go : (a < b) ⊎ ((a ≡ b) × T (lower l m)) → (b < a) ⊎ ((b ≡ a) × T (lower m l)) → (T (lower l m) → T (lower m l) → ⊥) → ⊥
+    go : (a < b) ⊎ ((a ≡ b) × T (lower l m)) → (b < a) ⊎ ((b ≡ a) × T (lower m l))
+        → (T (lower l m) → T (lower m l) → ⊥) → ⊥
     go (inl h) (inl k) ih = omega arith
     go (inl h) (inr k) ih = omega (arith, k .0)
     go (inr h) (inl k) ih = omega (arith, h .0)
@@ -56,7 +59,8 @@ lower-trans (a ∷ l) [] n s t = absurd s
 lower-trans (a ∷ l) (b ∷ m) [] s t = absurd t
 lower-trans (a ∷ l) (b ∷ m) (c ∷ n) s t = go (lower-cons a b l m s) (lower-cons b c m n t) (lower-trans l m n)
   where
-    go : (a < b) ⊎ ((a ≡ b) × T (lower l m)) → (b < c) ⊎ ((b ≡ c) × T (lower m n)) → (T (lower l m) → T (lower m n) → T (lower l n))
+    go : (a < b) ⊎ ((a ≡ b) × T (lower l m)) → (b < c) ⊎ ((b ≡ c) × T (lower m n))
+        → (T (lower l m) → T (lower m n) → T (lower l n))
         → T (lower (a ∷ l) (c ∷ n))
     go (inl h) (inl k) ih = lower-less a c l n (omega arith)
     go (inl h) (inr k) ih = lower-less a c l n (omega (arith, k .0))
@@ -93,7 +97,8 @@ lower-total (a ∷ l) (b ∷ m) e = go (compare-nat a b) (lower-total l m (omega
 
 -- ---- the order among lists
 module _ (c : Case) where
-  leads-cases : (l m : List ℕ) → T (leads c l m) → (profitOf c m <ℤ profitOf c l) ⊎ ((profitOf c m ≤ℤ profitOf c l) × T (lower l m))
+  leads-cases : (l m : List ℕ) → T (leads c l m)
+      → (profitOf c m <ℤ profitOf c l) ⊎ ((profitOf c m ≤ℤ profitOf c l) × T (lower l m))
   unfolding leads
   leads-cases l m t = ⊎-elim
       (λ s. inl (record { lt = s }))
@@ -102,7 +107,8 @@ module _ (c : Case) where
 
   pub leads-more : (l m : List ℕ) → profitOf c m <ℤ profitOf c l → T (leads c l m)
   unfolding leads
-  leads-more l m h = left→or (ltZ (profitOf c m) (profitOf c l)) (leZ (profitOf c m) (profitOf c l) && lower l m) (h .lt)
+  leads-more l m h = left→or (ltZ (profitOf c m) (profitOf c l)) (leZ (profitOf c m) (profitOf c l) && lower l m)
+      (h .lt)
 
   pub leads-lower : (l m : List ℕ) → profitOf c m ≤ℤ profitOf c l → T (lower l m) → T (leads c l m)
   unfolding leads
@@ -138,7 +144,8 @@ module _ (c : Case) where
       go (inr h) (inr k) = leads-lower l n (omega (linear, h .0, k .0)) (lower-trans l m n (h .1) (k .1))
 
   pub leads-total : (l m : List ℕ) → length l ≡ length m → Compared l m (T (leads c l m)) (T (leads c m l))
-  leads-total l m e = go (ltZ (profitOf c m) (profitOf c l)) refl (ltZ (profitOf c l) (profitOf c m)) refl (lower-total l m e)
+  leads-total l m e = go (ltZ (profitOf c m) (profitOf c l)) refl (ltZ (profitOf c l) (profitOf c m)) refl
+      (lower-total l m e)
     where
       go : (s : Bool) → ltZ (profitOf c m) (profitOf c l) ≡ s → (t : Bool) → ltZ (profitOf c l) (profitOf c m) ≡ t
           → Compared l m (T (lower l m)) (T (lower m l)) → Compared l m (T (leads c l m)) (T (leads c m l))

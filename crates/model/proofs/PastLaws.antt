@@ -1,5 +1,5 @@
--- Outputs past the last hour are never looked at: two lists with the same outputs up to T break the same rule first, and earn the same.
--- Assumes nothing.
+-- Outputs past the last hour are never looked at: two lists with the same outputs up to T break the same rule first,
+-- and earn the same. Assumes nothing.
 use mathlib.Core.Path.{_≡_, refl, sym, ap, _∙_}
 use mathlib.Core.Bool.{Bool, true, false, _&&_, cond}
 use mathlib.Core.List.{List, _++_}
@@ -12,7 +12,8 @@ use Rattle.model.specs.declared.Case.{Case}
 use Rattle.model.specs.Symbols.{sum, bit, before, last, UD, DD, PU, PD}
 use Rattle.model.specs.Marks.{p, v, y, z}
 use Rattle.model.specs.Constraints.{starting, stopping, startOutput, stopOutput, stopsWithin}
-use Rattle.model.specs.Constraints.{rule1, rule2, rule3, rule4, rule5, rule6, rule7, rule8, rule9, rule10, rule11, rule12}
+use Rattle.model.specs.Constraints.{rule1, rule2, rule3, rule4, rule5, rule6, rule7, rule8, rule9, rule10}
+use Rattle.model.specs.Constraints.{rule11, rule12}
 use Rattle.model.specs.Rules.{hoursSince, rule21, rule22, rule23, rulesAt, brokenOf, brokenAt, breachFrom, breach}
 use Rattle.model.specs.Profit.{energy, charge, profitAt, profitTo, profitOf}
 use Rattle.model.proofs.ZeroedLaws.{sum-same}
@@ -33,7 +34,8 @@ module _ (c : Case) (l m : List ℕ) (agree : (i : ℕ) → i < last c → getD 
   y-same (suc k) = go (ltb k (last c)) refl
     where
       go : (t : Bool) → ltb k (last c) ≡ t
-          → bit (t && (eqb (v c l (suc k)) 1 && eqb (v c l k) 0)) ≡ bit (t && (eqb (v c m (suc k)) 1 && eqb (v c m k) 0))
+          → bit (t && (eqb (v c l (suc k)) 1 && eqb (v c l k) 0))
+          ≡ bit (t && (eqb (v c m (suc k)) 1 && eqb (v c m k) 0))
       go true e =
           let h = ltb-true k (last c) e in
           rw (v-same (suc k) h, v-same k (omega arith))
@@ -45,7 +47,8 @@ module _ (c : Case) (l m : List ℕ) (agree : (i : ℕ) → i < last c → getD 
   z-same (suc k) = go (ltb k (last c)) refl
     where
       go : (t : Bool) → ltb k (last c) ≡ t
-          → bit (t && (eqb (v c l (suc k)) 0 && eqb (v c l k) 1)) ≡ bit (t && (eqb (v c m (suc k)) 0 && eqb (v c m k) 1))
+          → bit (t && (eqb (v c l (suc k)) 0 && eqb (v c l k) 1))
+          ≡ bit (t && (eqb (v c m (suc k)) 0 && eqb (v c m k) 1))
       go true e =
           let h = ltb-true k (last c) e in
           rw (v-same (suc k) h, v-same k (omega arith))
@@ -71,7 +74,8 @@ module _ (c : Case) (l m : List ℕ) (agree : (i : ℕ) → i < last c → getD 
   unfolding stopsWithin
   stopsWithin-same n k = sum-same _ _ n (λ i a b. z-same (k + i - 1))
 
-  hoursSince-same : (f g : ℕ → ℕ) → ((k : ℕ) → f k ≡ g k) → (held n k : ℕ) → hoursSince held f n k ≡ hoursSince held g n k
+  hoursSince-same : (f g : ℕ → ℕ) → ((k : ℕ) → f k ≡ g k) → (held n k : ℕ)
+      → hoursSince held f n k ≡ hoursSince held g n k
   unfolding hoursSince
   hoursSince-same f g e held n zero = refl
   hoursSince-same f g e held n (suc k) = rw (e (suc k), hoursSince-same f g e held n k)
@@ -82,7 +86,8 @@ module _ (c : Case) (l m : List ℕ) (agree : (i : ℕ) → i < last c → getD 
 
   -- every rule of an hour up to T
   brokenAt-same : (k : ℕ) → k ≤ last c → brokenAt c l k ≡ brokenAt c m k
-  unfolding brokenAt brokenOf rulesAt rule1 rule2 rule3 rule4 rule5 rule6 rule7 rule8 rule9 rule10 rule11 rule12 rule21 rule22 rule23
+  unfolding brokenAt brokenOf rulesAt rule1 rule2 rule3 rule4 rule5 rule6 rule7 rule8 rule9 rule10 rule11 rule12
+      rule21 rule22 rule23
   brokenAt-same zero h = rw (v-same 0 h, p-same 0 h, starting-same 0, stopping-same 0, stopOutput-same 0)
   brokenAt-same (suc k) h =
       let t = suc k in

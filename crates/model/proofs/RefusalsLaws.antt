@@ -11,7 +11,8 @@ use Rattle.model.specs.declared.Case.{Case}
 use Rattle.model.specs.declared.Output.{Output}
 use Rattle.model.specs.Symbols.{every, stage, hourly}
 use Rattle.model.specs.Layout.{noOutput}
-use Rattle.model.specs.Refusals.{refusal2, refusal3, refusal4, refusal5, refusal6, refusal7, refusal8, firstOf, tests, refusalOf}
+use Rattle.model.specs.Refusals.{refusal2, refusal3, refusal4, refusal5, refusal6, refusal7, refusal8, firstOf}
+use Rattle.model.specs.Refusals.{tests, refusalOf}
 
 -- ---- the first that applies
 abbrev positive : List (ℕ × Bool) → Type 0
@@ -50,7 +51,8 @@ unfolding every
 every-none f = refl
 
 -- one test more
-pub every-more : (f : ℕ → Bool) (i : ℕ) {so next : Bool} → so ≡ every f i → next ≡ f (suc i) → (so && next) ≡ every f (i + 1)
+pub every-more : (f : ℕ → Bool) (i : ℕ) {so next : Bool} → so ≡ every f i → next ≡ f (suc i)
+    → (so && next) ≡ every f (i + 1)
 unfolding every
 every-more f i {so} {next} e n = rw add-one (cc)
 

@@ -1,5 +1,5 @@
--- Entries past a count are never looked at: a case and the case with those entries zero have the same refusals, the same rules and the
--- same profit. Assumes nothing.
+-- Entries past a count are never looked at: a case and the case with those entries zero have the same refusals, the
+-- same rules and the same profit. Assumes nothing.
 use mathlib.Core.Path.{_≡_, refl, sym, ap, _∙_}
 use mathlib.Core.Bool.{Bool, true, false, not}
 use mathlib.Core.List.{List, [], _∷_}
@@ -13,12 +13,15 @@ use Rattle.model.specs.Limits.{mostStages, mostHours}
 use Rattle.model.specs.Symbols.{sum, every, stage, hourly, high, UD, DD, PU, PD, last, price, order}
 use Rattle.model.specs.Marks.{p, v, y, z}
 use Rattle.model.specs.Constraints.{starting, stopping, startOutput, stopOutput, stopsWithin}
-use Rattle.model.specs.Constraints.{rule1, rule2, rule3, rule4, rule5, rule6, rule7, rule8, rule9, rule10, rule11, rule12}
-use Rattle.model.specs.Rules.{rule21, rule22, rule23, rulesAt, brokenOf, brokenAt, breachFrom, breach, keeps, isNone}
+use Rattle.model.specs.Constraints.{rule1, rule2, rule3, rule4, rule5, rule6, rule7, rule8, rule9, rule10}
+use Rattle.model.specs.Constraints.{rule11, rule12}
+use Rattle.model.specs.Rules.{rule21, rule22, rule23, rulesAt, brokenOf, brokenAt, breachFrom, breach, keeps}
+use Rattle.model.specs.Rules.{isNone}
 use Rattle.model.specs.Profit.{energy, charge, profitAt, profitTo, profitOf}
 use Rattle.model.specs.Best.{leads, listsOf, foremost, bestAmong, bestOf}
 use Rattle.model.specs.Layout.{padded, noOutput, zeroed}
-use Rattle.model.specs.Refusals.{refusal2, refusal3, refusal4, refusal5, climbs, descends, refusal6, refusal7, refusal8, firstOf, tests}
+use Rattle.model.specs.Refusals.{refusal2, refusal3, refusal4, refusal5, climbs, descends, refusal6, refusal7}
+use Rattle.model.specs.Refusals.{refusal8, firstOf, tests}
 use Rattle.model.proofs.LimitsLaws.{counts}
 use Rattle.model.proofs.LayoutLaws.{getD-padded-in}
 
@@ -43,12 +46,14 @@ module _ (c : Case) where
   pub PU-zeroed : UD c ≤ mostStages → (i : ℕ) → i ≤ UD c → PU (zeroed c) i ≡ PU c i
   unfolding stage zeroed
   PU-zeroed n zero h = refl
-  PU-zeroed n (suc i) h = ap (λ o. o .0) (getD-padded-in noOutput (λ i. getD (c .rise) i noOutput) (UD c) mostStages noOutput i h (omega arith))
+  PU-zeroed n (suc i) h = ap (λ o. o .0)
+      (getD-padded-in noOutput (λ i. getD (c .rise) i noOutput) (UD c) mostStages noOutput i h (omega arith))
 
   pub PD-zeroed : DD c ≤ mostStages → (i : ℕ) → i ≤ DD c → PD (zeroed c) i ≡ PD c i
   unfolding stage zeroed
   PD-zeroed n zero h = refl
-  PD-zeroed n (suc i) h = ap (λ o. o .0) (getD-padded-in noOutput (λ i. getD (c .fall) i noOutput) (DD c) mostStages noOutput i h (omega arith))
+  PD-zeroed n (suc i) h = ap (λ o. o .0)
+      (getD-padded-in noOutput (λ i. getD (c .fall) i noOutput) (DD c) mostStages noOutput i h (omega arith))
 
   pub price-zeroed : last c ≤ mostHours → (k : ℕ) → k ≤ last c → price (zeroed c) k ≡ price c k
   unfolding hourly zeroed
@@ -76,11 +81,13 @@ roomy c e =
 module _ (c : Case) (room : Roomy c) (l : List ℕ) where
   startOutput-zeroed : (k : ℕ) → startOutput (zeroed c) l k ≡ startOutput c l k
   unfolding startOutput y v p zeroed
-  startOutput-zeroed k = sum-same _ _ (UD c) (λ i a b. ap (λ x. x * y c l (k + 1 - i)) (PU-zeroed c (room .rises-le) i b))
+  startOutput-zeroed k = sum-same _ _ (UD c)
+      (λ i a b. ap (λ x. x * y c l (k + 1 - i)) (PU-zeroed c (room .rises-le) i b))
 
   stopOutput-zeroed : (k : ℕ) → stopOutput (zeroed c) l k ≡ stopOutput c l k
   unfolding stopOutput z v p zeroed
-  stopOutput-zeroed k = sum-same _ _ (DD c) (λ i a b. ap (λ x. x * z c l (k + DD c + 1 - i)) (PD-zeroed c (room .falls-le) i b))
+  stopOutput-zeroed k = sum-same _ _ (DD c)
+      (λ i a b. ap (λ x. x * z c l (k + DD c + 1 - i)) (PD-zeroed c (room .falls-le) i b))
 
   rule1-zeroed : (k : ℕ) → rule1 (zeroed c) l k ≡ rule1 c l k
   unfolding rule1 starting stopping y z v p zeroed
@@ -111,11 +118,20 @@ module _ (c : Case) (room : Roomy c) (l : List ℕ) where
   rule23-zeroed k h = rw (order-zeroed c (room .hours-le) k h)
 
   brokenAt-zeroed : (k : ℕ) → k ≤ last c → brokenAt (zeroed c) l k ≡ brokenAt c l k
-  unfolding brokenAt brokenOf rulesAt rule5 rule6 rule7 rule8 rule9 rule10 rule21 rule22 starting stopping stopsWithin y z v p zeroed
+  unfolding brokenAt brokenOf rulesAt rule5 rule6 rule7 rule8 rule9 rule10 rule21 rule22 starting stopping stopsWithin
+      y z v p zeroed
   brokenAt-zeroed zero h = rw (rule2-zeroed 0, rule4-zeroed 0)
   brokenAt-zeroed (suc k) h =
       let t = suc k in
-      rw (rule1-zeroed t, rule2-zeroed t, rule3-zeroed t, rule4-zeroed t, rule11-zeroed t, rule12-zeroed t, rule23-zeroed t h)
+      rw (
+        rule1-zeroed t,
+        rule2-zeroed t,
+        rule3-zeroed t,
+        rule4-zeroed t,
+        rule11-zeroed t,
+        rule12-zeroed t,
+        rule23-zeroed t h,
+      )
 
   breachFrom-zeroed : (n k : ℕ) → k + n ≤ suc (last c) → breachFrom (zeroed c) l k n ≡ breachFrom c l k n
   unfolding breachFrom
@@ -166,7 +182,11 @@ module _ (c : Case) (room : Roomy c) where
         PU-zeroed c (room .rises-le) 1 (room .rises-pos),
         PU-zeroed c (room .rises-le) (UD c) (omega arith),
         every-same (λ i. ltb (PU (zeroed c) i) (PU (zeroed c) (suc i))) (λ i. ltb (PU c i) (PU c (suc i))) (UD c - 1)
-            (λ i a b. rw (PU-zeroed c (room .rises-le) i (omega arith), PU-zeroed c (room .rises-le) (suc i) (omega arith))),
+            (λ i a b. rw (
+              PU-zeroed c (room .rises-le) i (omega arith),
+              PU-zeroed c (room .rises-le) (suc i)
+                  (omega arith),
+            )),
       )
 
   descends-zeroed : descends (zeroed c) ≡ descends c
@@ -176,7 +196,11 @@ module _ (c : Case) (room : Roomy c) where
         PD-zeroed c (room .falls-le) 1 (room .falls-pos),
         PD-zeroed c (room .falls-le) (DD c) (omega arith),
         every-same (λ i. ltb (PD (zeroed c) (suc i)) (PD (zeroed c) i)) (λ i. ltb (PD c (suc i)) (PD c i)) (DD c - 1)
-            (λ i a b. rw (PD-zeroed c (room .falls-le) i (omega arith), PD-zeroed c (room .falls-le) (suc i) (omega arith))),
+            (λ i a b. rw (
+              PD-zeroed c (room .falls-le) i (omega arith),
+              PD-zeroed c (room .falls-le) (suc i)
+                  (omega arith),
+            )),
       )
 
   refusal8-zeroed : refusal8 (zeroed c) ≡ refusal8 c

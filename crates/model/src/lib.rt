@@ -1,6 +1,7 @@
-// The words that every other crate speaks in: the wrapped numbers, the case record with the fields of the case file, and the answers.
-// Each wrapped number has one unit: megawatts, hours, mills (thousandths of a dollar) and half-mills never stand in for one another.
-// What a case, a list and an answer mean is defined in specs/; specs/Promises says what holds of the definitions.
+// The words that every other crate speaks in: the wrapped numbers, the case record with the fields of the case file,
+// and the answers. Each wrapped number has one unit: megawatts, hours, mills (thousandths of a dollar) and half-mills
+// never stand in for one another. What a case, a list and an answer mean is defined in specs/; specs/Promises says
+// what holds of the definitions.
 
 // Entries that a record has room for: outputs of a trajectory, hours of a day.
 pub const STAGES: usize = 8;
