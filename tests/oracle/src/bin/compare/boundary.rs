@@ -1,0 +1,53 @@
+//! The library's C boundary: structs by value, slices as pointer and length.
+
+use oracle::case::Case;
+
+/// What reading gives.
+#[repr(C)]
+pub struct Reading {
+    pub number: u32,
+    pub case: Case,
+}
+
+/// What writing gives.
+#[repr(C)]
+pub struct Written {
+    pub number: u32,
+    pub length: usize,
+}
+
+/// What the check gives.
+#[repr(C)]
+pub struct Verdict {
+    pub number: u32,
+    pub hour: u32,
+    pub rule: u32,
+    pub profit: i64,
+}
+
+/// What the search gives.
+#[repr(C)]
+pub struct Plan {
+    pub number: u32,
+    pub profit: i64,
+}
+
+extern "C" {
+    /// Reads a case from the bytes of a file.
+    pub fn giqapsun_read(file: *const u8, count: usize) -> Reading;
+
+    /// Writes a case as the bytes of a file.
+    pub fn giqapsun_write(case: Case, bytes: *mut u8, count: usize) -> Written;
+
+    /// Checks a list of outputs.
+    pub fn giqapsun_check(case: Case, list: *const u16, count: usize) -> Verdict;
+
+    /// Finds the best list of outputs.
+    pub fn giqapsun_best(
+        case: Case,
+        work: *mut i64,
+        work_count: usize,
+        outputs: *mut u16,
+        outputs_count: usize,
+    ) -> Plan;
+}

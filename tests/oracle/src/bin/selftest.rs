@@ -1,0 +1,279 @@
+//! Holds the independent scheduler against the papers and against itself. Needs no library.
+
+use oracle::answers;
+use oracle::best::{by_commitment, every_list};
+use oracle::case::Case;
+use oracle::damage::damaged_file;
+use oracle::days::{self, Answer, KnownDay, Question};
+use oracle::dp::best_list;
+use oracle::file;
+use oracle::lists::any_list;
+use oracle::random::Rng;
+use oracle::refusals::WORKING_NUMBERS;
+use oracle::rules::RULES;
+use oracle::units::{full_day, long_day, longer_day, small_unit};
+use oracle::wild::fill_past_counts;
+use std::fmt::Debug;
+use std::process::ExitCode;
+
+/// Seed of all random cases.
+const SEED: u64 = 0x5e1f_7e57;
+
+/// Numbers of random cases.
+const ROUND_TRIPS: u64 = 10_000;
+const DAMAGED_FILES: u64 = 20_000;
+const PRUNED: u64 = 3_000;
+const SMALL_UNITS: u64 = 4_000;
+const LONGER_DAYS: u64 = 1_200;
+const FULL_DAYS: u64 = 400;
+const LISTS: u64 = 40_000;
+
+/// Counts of what passed and failed.
+#[derive(Default)]
+struct Tally {
+    passed: u64,
+    failed: u64,
+}
+
+impl Tally {
+    /// Counts one comparison, and shows it if the two differ.
+    fn same<N: PartialEq + Debug>(&mut self, what: &str, given: N, expected: N) {
+        if given == expected {
+            self.passed += 1;
+        } else {
+            self.failed += 1;
+            println!("  FAILED {what}: {given:?}, expected {expected:?}");
+        }
+    }
+}
+
+/// The numbers of a known day's verdict or schedule.
+fn answer_known_day(day: &KnownDay) -> String {
+    let case = &day.case;
+    match &day.question {
+        Question::Check(list) => format!("{:?}", answers::verdict(case, list)),
+        Question::BestList => {
+            let search = |case: &Case| every_list(case);
+            format!("{:?}", answers::schedule(case, WORKING_NUMBERS, case.t, search))
+        }
+    }
+}
+
+/// The same numbers as the table has them.
+fn expect_known_day(day: &KnownDay) -> String {
+    let number = 0;
+    match day.answer.clone() {
+        Answer::Found { list, profit } => {
+            format!("{:?}", answers::Schedule { number, profit, list })
+        }
+        Answer::Breaks { hour, rule } => {
+            format!("{:?}", answers::Verdict { number, hour, rule, profit: 0 })
+        }
+        Answer::Refused(number) => {
+            format!("{:?}", answers::Schedule { number, profit: 0, list: Vec::new() })
+        }
+    }
+}
+
+/// The known days by trying every list; where a list is found, also by commitment and by `dp`, and
+/// the found list through the check.
+fn known_days(tally: &mut Tally) {
+    for day in days::known_days() {
+        tally.same(day.name, answer_known_day(&day), expect_known_day(&day));
+        if let Question::BestList = day.question {
+            let plan = every_list(&day.case);
+            tally.same(day.name, by_commitment(&day.case), plan.clone());
+            tally.same(day.name, best_list(&day.case), plan);
+        }
+        if let Answer::Found { list, profit } = &day.answer {
+            let verdict = answers::Verdict { number: 0, hour: 0, rule: 0, profit: *profit };
+            tally.same(day.name, answers::verdict(&day.case, list), verdict);
+        }
+    }
+}
+
+/// The file of the program's example, its pairs and its text; and the program's refusals.
+fn program_example(tally: &mut Tally) {
+    let case = days::program_example();
+    let file = file::write(&case).expect("the example is within the limits");
+    let numbers: Vec<u16> = file[..16].chunks(2).map(|two| u16::from_le_bytes([two[0], two[1]])).collect();
+    let pairs: Vec<(u16, u16)> = numbers.chunks(2).map(|two| (two[0], two[1])).collect();
+    tally.same("pairs", pairs, days::EXAMPLE_PAIRS.to_vec());
+    tally.same("length", file.len(), 65);
+    tally.same("reading", file::read(&file), Ok(case));
+    for search in [every_list, by_commitment, best_list] {
+        tally.same("text", answers::program_text(&file, search), days::EXAMPLE_TEXT.to_string());
+    }
+    tally.same("empty", answers::program_text(&[], best_list), "refused 1\n".to_string());
+    tally.same("long", answers::program_text(&[0; 4097], best_list), "refused 1\n".to_string());
+}
+
+/// The source's day: the printed list, the optimum, and the optimum of two days in tenths of a
+/// dollar (20,000 half-mills are ten dollars, 200 are a tenth).
+fn source_day(tally: &mut Tally) {
+    let case = days::source_day();
+    let passes = answers::Verdict { number: 0, hour: 0, rule: 0, profit: days::SOURCE_PROFIT };
+    tally.same("printed list", answers::verdict(&case, &days::SOURCE_LIST), passes);
+    let plan = best_list(&case).expect("the source's day has a schedule");
+    tally.same("optimum", plan.profit, days::SOURCE_PROFIT);
+    tally.same("optimal list", answers::verdict(&case, &plan.list), passes);
+    let two_days = best_list(&days::source_two_days()).expect("two days have a schedule");
+    tally.same("two days", (two_days.profit + 100) / 200, days::TWO_DAYS_TENTHS);
+}
+
+/// The examples of the refusal list.
+fn refusal_examples(tally: &mut Tally) {
+    let unit = days::known_unit(0, &[10]);
+    let mut sections = file::sections(&unit);
+    sections[3].push(0);
+    tally.same("1", file::read(&[]), Err(1));
+    tally.same("2", file::read(&file::assemble(&sections)), Err(2));
+    tally.same("3", file::write(&Case { minimum: 5, ..unit }), Err(3));
+    tally.same("4", file::write(&Case { ramp_up: 0, ..unit }), Err(4));
+    tally.same("5", file::write(&Case { f: 1_000_001, ..unit }), Err(5));
+    tally.same("6", file::write(&Case { pu: [2, 2, 0, 0, 0, 0, 0, 0], ..unit }), Err(6));
+    tally.same("7", file::write(&Case { p0: 1, ..unit }), Err(7));
+    tally.same("8", file::write(&Case { orders: [3; 48], ..unit }), Err(8));
+    tally.same("9", answers::verdict(&days::known_unit(0, &[10; 2]), &[0]).number, 9);
+    tally.same("10", answers::schedule(&unit, 8191, 1, best_list).number, 10);
+    tally.same("10", answers::schedule(&unit, 8192, 0, best_list).number, 10);
+    tally.same("10", answers::writing(&unit, 58).number, 10);
+    tally.same("0", answers::writing(&unit, 59).number, 0);
+}
+
+/// Reading the written bytes returns the record zeroed past its counts.
+fn round_trips(tally: &mut Tally) {
+    for index in 0..ROUND_TRIPS {
+        let mut rng = Rng::for_index(SEED, index);
+        let mut case = if index % 2 == 0 { small_unit(&mut rng) } else { full_day(&mut rng) };
+        fill_past_counts(&mut rng, &mut case);
+        let file = file::write(&case).expect("the case is within the limits");
+        tally.same("read back", file::read(&file), Ok(case.zeroed_past_counts()));
+        tally.same("write again", file::write(&case.zeroed_past_counts()), Ok(file));
+    }
+}
+
+/// Writing a read file returns its bytes; a refused file gets a number from 1 to 8.
+fn damaged_files(tally: &mut Tally) -> String {
+    let mut counts = [0; 9];
+    for index in 0..DAMAGED_FILES {
+        let file = damaged_file(&mut Rng::for_index(SEED, index));
+        let read = file::read(&file);
+        let number = read.err().unwrap_or(0);
+        counts[number as usize] += 1;
+        match read {
+            Ok(case) => tally.same("bytes", file::write(&case), Ok(file)),
+            Err(number) => tally.same("number", (1..=8).contains(&number), true),
+        }
+    }
+    format!("; numbers 0 to 8: {counts:?}")
+}
+
+/// The search by commitment against the one that tries every list.
+fn pruned_searches(tally: &mut Tally) {
+    for index in 0..PRUNED {
+        let case = small_unit(&mut Rng::for_index(SEED + 1, index));
+        tally.same("pruned", by_commitment(&case), every_list(&case));
+    }
+}
+
+/// `dp` against the search that tries every list.
+fn small_units(tally: &mut Tally) -> String {
+    let mut without_list = 0;
+    for index in 0..SMALL_UNITS {
+        let case = small_unit(&mut Rng::for_index(SEED + 2, index));
+        let plan = every_list(&case);
+        without_list += u64::from(plan.is_none());
+        tally.same("dp", best_list(&case), plan);
+    }
+    format!("; {without_list} without a list")
+}
+
+/// `dp` against the search by commitment on longer days.
+fn longer_days(tally: &mut Tally) -> String {
+    let mut without_list = 0;
+    for index in 0..LONGER_DAYS {
+        let case = longer_day(&mut Rng::for_index(SEED + 3, index));
+        let plan = by_commitment(&case);
+        without_list += u64::from(plan.is_none());
+        tally.same("dp", best_list(&case), plan);
+    }
+    format!("; {without_list} without a list")
+}
+
+/// On full-size and long days the list of `dp` passes the check and earns what `dp` says.
+fn full_days(tally: &mut Tally) -> String {
+    let mut without_list = 0;
+    for index in 0..FULL_DAYS {
+        let mut rng = Rng::for_index(SEED + 4, index);
+        let case = if index < FULL_DAYS / 2 { full_day(&mut rng) } else { long_day(&mut rng) };
+        match best_list(&case) {
+            None => without_list += 1,
+            Some(plan) => {
+                let passes = answers::Verdict { number: 0, hour: 0, rule: 0, profit: plan.profit };
+                tally.same("dp's list", answers::verdict(&case, &plan.list), passes);
+            }
+        }
+    }
+    format!("; {without_list} without a list")
+}
+
+/// No list that passes earns more than `dp`, or the same with a lower list.
+fn random_lists(tally: &mut Tally) -> String {
+    let mut counts = [0; 24];
+    for index in 0..LISTS {
+        let mut rng = Rng::for_index(SEED + 5, index);
+        let case = if index % 2 == 0 { small_unit(&mut rng) } else { longer_day(&mut rng) };
+        let list = any_list(&mut rng, &case);
+        let verdict = answers::verdict(&case, &list);
+        if verdict.number == 0 {
+            counts[verdict.rule as usize] += 1;
+        }
+        if (verdict.number, verdict.rule) == (0, 0) {
+            let plan = best_list(&case).map(|plan| (plan.profit, plan.list));
+            let not_better = plan.is_some_and(|(profit, best)| {
+                profit > verdict.profit || (profit == verdict.profit && best <= list)
+            });
+            tally.same("not better than dp", not_better, true);
+        }
+    }
+    let by_rule: Vec<String> =
+        RULES.iter().map(|&rule| format!("{rule}: {}", counts[rule as usize])).collect();
+    format!("; first breaches by rule {}", by_rule.join(", "))
+}
+
+/// Runs one group and prints its line.
+fn group(name: &str, total: &mut Tally, run: impl FnOnce(&mut Tally) -> String) {
+    let mut tally = Tally::default();
+    let remark = run(&mut tally);
+    println!("{name}: {} passed, {} failed{remark}", tally.passed, tally.failed);
+    total.passed += tally.passed;
+    total.failed += tally.failed;
+}
+
+/// A group without a remark.
+fn plain(run: fn(&mut Tally)) -> impl FnOnce(&mut Tally) -> String {
+    move |tally| {
+        run(tally);
+        String::new()
+    }
+}
+
+/// Runs all groups; the exit status is 1 if anything failed.
+fn main() -> ExitCode {
+    let mut total = Tally::default();
+    println!("seed {SEED:#x}");
+    group("known days", &mut total, plain(known_days));
+    group("program's example", &mut total, plain(program_example));
+    group("source's day", &mut total, plain(source_day));
+    group("refusal examples", &mut total, plain(refusal_examples));
+    group("round trips", &mut total, plain(round_trips));
+    group("damaged files", &mut total, damaged_files);
+    group("by commitment against every list", &mut total, plain(pruned_searches));
+    group("dp against every list", &mut total, small_units);
+    group("dp against by commitment", &mut total, longer_days);
+    group("dp's lists on full-size and long days", &mut total, full_days);
+    group("random lists against dp", &mut total, random_lists);
+    println!("{} passed, {} failed", total.passed, total.failed);
+    ExitCode::from(u8::from(total.failed > 0))
+}

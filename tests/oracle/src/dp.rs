@@ -1,0 +1,237 @@
+//! The best list of a full-size day by a dynamic programme. It renders the source's section II-A
+//! in words instead of constraints: a unit is off-line, on its start-up trajectory, on-line between
+//! minimum output and capacity, or on its shut-down trajectory; it must be held against `best`.
+
+use crate::best::Plan;
+use crate::case::{Case, OFF_LINE, ON_LINE};
+use crate::profit::hour_profit;
+
+/// What the rest of the day depends on at the end of an hour.
+#[derive(Clone, Copy, Debug, PartialEq, Eq)]
+enum State {
+    /// Off-line for so many hours, counted up to the minimum down time.
+    Off(usize),
+    /// At PU(i), for i from 1 to UD - 1.
+    Rising(usize),
+    /// On-line for so many hours, counted up to `hours_before_fall`, at this output. PU(UD) and
+    /// PD(1) are such hours too, at the minimum output: this is where a start and a stop may meet.
+    On(usize, u16),
+    /// At PD(j), for j from 2 to DD.
+    Falling(usize),
+}
+
+/// On-line hours, the one at PD(1) included, after which the fall to PD(2) keeps rule 21. If hour k
+/// is the u-th on-line hour and stands at PD(1), the stop is at k + DD, which is u - 1 + DD hours
+/// after the start; so u must be at least the minimum up time + 1 - DD.
+fn hours_before_fall(case: &Case) -> usize {
+    (usize::from(case.min_up) + 1).saturating_sub(case.dd).max(1)
+}
+
+/// The state at the end of hour 0.
+fn opening(case: &Case) -> State {
+    let hours = usize::from(case.h);
+    if case.p0 == 0 {
+        State::Off(hours.min(usize::from(case.min_down)))
+    } else {
+        State::On(hours.min(hours_before_fall(case)), case.p0)
+    }
+}
+
+/// The output in a state.
+fn output(case: &Case, state: State) -> u16 {
+    match state {
+        State::Off(_) => 0,
+        State::Rising(i) => case.pu[i - 1],
+        State::On(_, output) => output,
+        State::Falling(j) => case.pd[j - 1],
+    }
+}
+
+/// Visits the states that may follow within the day, lowest output first. No two of them have the
+/// same output.
+fn for_each_next(case: &Case, state: State, mut visit: impl FnMut(State)) {
+    match state {
+        State::Off(hours) => {
+            let needed = usize::from(case.min_down);
+            visit(State::Off((hours + 1).min(needed)));
+            if hours >= needed {
+                visit(start_stage(case, 1));
+            }
+        }
+        State::Rising(i) => visit(start_stage(case, i + 1)),
+        State::On(hours, output) => {
+            let needed = hours_before_fall(case);
+            if output == case.minimum && hours >= needed {
+                visit(stop_stage(case, 2));
+            }
+            let lowest = output.saturating_sub(case.ramp_down).max(case.minimum);
+            let highest = (output + case.ramp_up).min(case.capacity);
+            for next in lowest..=highest {
+                visit(State::On((hours + 1).min(needed), next));
+            }
+        }
+        State::Falling(j) => visit(stop_stage(case, j + 1)),
+    }
+}
+
+/// The i-th hour of a start-up; the last one is at the minimum output.
+fn start_stage(case: &Case, i: usize) -> State {
+    if i < case.ud {
+        State::Rising(i)
+    } else {
+        State::On(case.ud.min(hours_before_fall(case)), case.minimum)
+    }
+}
+
+/// The j-th hour of a shut-down, for j from 2; after DD hours the unit is off-line.
+fn stop_stage(case: &Case, j: usize) -> State {
+    if j <= case.dd {
+        State::Falling(j)
+    } else {
+        State::Off(1)
+    }
+}
+
+/// All states of a unit.
+fn all_states(case: &Case) -> Vec<State> {
+    let mut states: Vec<State> = (1..=usize::from(case.min_down)).map(State::Off).collect();
+    states.extend((1..case.ud).map(State::Rising));
+    for hours in 1..=hours_before_fall(case) {
+        states.extend((case.minimum..=case.capacity).map(|output| State::On(hours, output)));
+    }
+    states.extend((2..=case.dd).map(State::Falling));
+    states
+}
+
+/// For one hour, the most that the hours after it can earn from each state; none if no list keeps
+/// the rules from there.
+struct Values {
+    minimum: u16,
+    outputs: usize,
+    off: [Option<i64>; 9],
+    rising: [Option<i64>; 9],
+    falling: [Option<i64>; 9],
+    on: Vec<Option<i64>>,
+}
+
+impl Values {
+    /// A table with no value in any state.
+    fn none(case: &Case) -> Values {
+        let outputs = usize::from(case.capacity - case.minimum) + 1;
+        Values {
+            minimum: case.minimum,
+            outputs,
+            off: [None; 9],
+            rising: [None; 9],
+            falling: [None; 9],
+            on: vec![None; outputs * (hours_before_fall(case) + 1)],
+        }
+    }
+
+    /// The values at the end of hour T: a start may be cut by the end of the day, a stop may not.
+    fn at_end(case: &Case) -> Values {
+        let mut values = Values::none(case);
+        for state in all_states(case) {
+            if !matches!(state, State::Falling(_)) {
+                values.set(state, Some(0));
+            }
+        }
+        values
+    }
+
+    /// The place of an on-line state.
+    fn place(&self, hours: usize, output: u16) -> usize {
+        hours * self.outputs + usize::from(output - self.minimum)
+    }
+
+    /// The value in a state.
+    fn get(&self, state: State) -> Option<i64> {
+        match state {
+            State::Off(hours) => self.off[hours],
+            State::Rising(i) => self.rising[i],
+            State::On(hours, output) => self.on[self.place(hours, output)],
+            State::Falling(j) => self.falling[j],
+        }
+    }
+
+    /// Changes the value in a state.
+    fn set(&mut self, state: State, value: Option<i64>) {
+        let place = match state {
+            State::Off(hours) => &mut self.off[hours],
+            State::Rising(i) => &mut self.rising[i],
+            State::On(hours, output) => {
+                let place = self.place(hours, output);
+                &mut self.on[place]
+            }
+            State::Falling(j) => &mut self.falling[j],
+        };
+        *place = value;
+    }
+}
+
+/// Whether the order of hour k allows this output.
+fn keeps_order(case: &Case, k: usize, output: u16) -> bool {
+    match case.orders[k - 1] {
+        ON_LINE => output > 0,
+        OFF_LINE => output == 0,
+        _ => true,
+    }
+}
+
+/// What the hours from k on earn if hour k goes from one state to the other.
+fn value_of_step(case: &Case, k: usize, from: State, to: State, after: &Values) -> Option<i64> {
+    let (before, now) = (output(case, from), output(case, to));
+    if !keeps_order(case, k, now) {
+        return None;
+    }
+    after.get(to).map(|rest| hour_profit(case, k, before, now) + rest)
+}
+
+/// The most that the hours from k on can earn from a state at the end of hour k - 1.
+fn value_before(case: &Case, k: usize, from: State, after: &Values) -> Option<i64> {
+    let mut best = None;
+    for_each_next(case, from, |to| best = best.max(value_of_step(case, k, from, to, after)));
+    best
+}
+
+/// The values at the ends of hours 0 to T.
+fn all_values(case: &Case) -> Vec<Values> {
+    let states = all_states(case);
+    let mut backwards = vec![Values::at_end(case)];
+    for k in (1..=case.t).rev() {
+        let mut values = Values::none(case);
+        let after = &backwards[case.t - k];
+        for &state in &states {
+            values.set(state, value_before(case, k, state, after));
+        }
+        backwards.push(values);
+    }
+    backwards.reverse();
+    backwards
+}
+
+/// The best list with its profit, the lowest list among equal earners; none if no list keeps every
+/// rule. The case has passed the refusals.
+pub fn best_list(case: &Case) -> Option<Plan> {
+    let values = all_values(case);
+    let mut state = opening(case);
+    let profit = values[0].get(state)?;
+    let mut list = Vec::new();
+    for k in 1..=case.t {
+        state = lowest_best_step(case, k, state, &values);
+        list.push(output(case, state));
+    }
+    Some(Plan { profit, list })
+}
+
+/// The step of lowest output that still reaches the best value.
+fn lowest_best_step(case: &Case, k: usize, from: State, values: &[Values]) -> State {
+    let wanted = values[k - 1].get(from);
+    let mut step = None;
+    for_each_next(case, from, |to| {
+        if step.is_none() && value_of_step(case, k, from, to, &values[k]) == wanted {
+            step = Some(to);
+        }
+    });
+    step.expect("a state with a value has a step that reaches it")
+}

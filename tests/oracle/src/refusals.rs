@@ -1,0 +1,133 @@
+//! The refusal list (scope, "Refusal list"), numbers 1 to 10. Number 11 is the answer of a
+//! search that found nothing, and stands in `answers`.
+
+use crate::case::{Case, MOST_HOURS, MOST_STAGES, OFF_LINE};
+
+/// Nothing, or the number of the refusal that applies.
+pub type Test = Result<(), u32>;
+
+/// Working numbers that a search may ask for.
+pub const WORKING_NUMBERS: usize = 8192;
+
+/// Bytes of the four pairs at the head of a file, and of the unit's section.
+pub const PAIRS_BYTES: usize = 16;
+pub const UNIT_BYTES: usize = 32;
+
+/// Refuses with `number` where `condition` holds.
+fn refuse_if(condition: bool, number: u32) -> Test {
+    if condition {
+        Err(number)
+    } else {
+        Ok(())
+    }
+}
+
+/// Refusal 1: the chain of pairs. The first offset is 16, each next one is where the section
+/// before ends, the last section ends with the file. Sums are plain sums of whole numbers.
+pub fn pairs(pairs: &[(usize, usize); 4], file_bytes: usize) -> Test {
+    let mut expected_offset = PAIRS_BYTES;
+    for &(offset, length) in pairs {
+        refuse_if(offset != expected_offset, 1)?;
+        expected_offset = offset + length;
+    }
+    refuse_if(expected_offset != file_bytes, 1)
+}
+
+/// Refusal 2 of a file: 32 bytes of unit, 1 to 8 entries of 2 bytes in each trajectory, 1 to
+/// 48 hours of 3 bytes.
+pub fn section_lengths(lengths: [usize; 4]) -> Test {
+    let [unit, start_up, shut_down, hours] = lengths;
+    refuse_if(unit != UNIT_BYTES, 2)?;
+    refuse_if(!is_entries(start_up, 2, MOST_STAGES), 2)?;
+    refuse_if(!is_entries(shut_down, 2, MOST_STAGES), 2)?;
+    refuse_if(!is_entries(hours, 3, MOST_HOURS), 2)
+}
+
+/// Whether `bytes` is the length of 1 to `most` entries of `size` bytes.
+fn is_entries(bytes: usize, size: usize, most: usize) -> bool {
+    bytes.is_multiple_of(size) && (1..=most).contains(&(bytes / size))
+}
+
+/// Refusals 2 to 8 of a record, from the top.
+pub fn record(case: &Case) -> Test {
+    counts(case)?;
+    output_limits(case)?;
+    ramps_and_times(case)?;
+    costs(case)?;
+    trajectories(case)?;
+    opening(case)?;
+    orders(case)
+}
+
+/// Refusal 2 of a record: a count outside its range.
+fn counts(case: &Case) -> Test {
+    refuse_if(!(1..=MOST_STAGES).contains(&case.ud), 2)?;
+    refuse_if(!(1..=MOST_STAGES).contains(&case.dd), 2)?;
+    refuse_if(!(1..=MOST_HOURS).contains(&case.t), 2)
+}
+
+/// Refusal 3: minimum output 0 or above capacity, or capacity above 400.
+fn output_limits(case: &Case) -> Test {
+    refuse_if(case.minimum == 0 || case.minimum > case.capacity || case.capacity > 400, 3)
+}
+
+/// Refusal 4: RU or RD outside 1 to 400, or a minimum time outside 1 to 8.
+fn ramps_and_times(case: &Case) -> Test {
+    for ramp in [case.ramp_up, case.ramp_down] {
+        refuse_if(!(1..=400).contains(&ramp), 4)?;
+    }
+    for time in [case.min_up, case.min_down] {
+        refuse_if(!(1..=8).contains(&time), 4)?;
+    }
+    Ok(())
+}
+
+/// Refusal 5: F above 1,000,000, or A, B or C above 100,000,000.
+fn costs(case: &Case) -> Test {
+    refuse_if(case.f > 1_000_000, 5)?;
+    for cost in [case.a, case.b, case.c] {
+        refuse_if(cost > 100_000_000, 5)?;
+    }
+    Ok(())
+}
+
+/// Refusal 6: PU not strictly rising from 1 or more to the minimum output, or PD not strictly
+/// falling from the minimum output to 1 or more.
+fn trajectories(case: &Case) -> Test {
+    let start_up = &case.pu[..case.ud];
+    let shut_down = &case.pd[..case.dd];
+    let rising = start_up.windows(2).all(|pair| pair[0] < pair[1]);
+    let falling = shut_down.windows(2).all(|pair| pair[0] > pair[1]);
+    let start_up_ends = start_up[0] >= 1 && start_up[case.ud - 1] == case.minimum;
+    let shut_down_ends = shut_down[0] == case.minimum && shut_down[case.dd - 1] >= 1;
+    refuse_if(!(rising && start_up_ends && falling && shut_down_ends), 6)
+}
+
+/// Refusal 7: h outside 1 to 10,000; p(0) neither 0 nor from minimum to capacity; p(0) above 0
+/// with h below UD.
+fn opening(case: &Case) -> Test {
+    refuse_if(!(1..=10_000).contains(&case.h), 7)?;
+    let on_line = case.p0 > 0;
+    refuse_if(on_line && !(case.minimum..=case.capacity).contains(&case.p0), 7)?;
+    refuse_if(on_line && usize::from(case.h) < case.ud, 7)
+}
+
+/// Refusal 8: an order byte above 2.
+fn orders(case: &Case) -> Test {
+    refuse_if(case.orders[..case.t].iter().any(|&order| order > OFF_LINE), 8)
+}
+
+/// Refusal 9: a checked list not of T outputs.
+pub fn list_length(case: &Case, outputs: usize) -> Test {
+    refuse_if(outputs != case.t, 9)
+}
+
+/// Refusal 10 of a search: fewer than 8,192 working numbers, or fewer than T outputs.
+pub fn search_memory(case: &Case, working_numbers: usize, outputs: usize) -> Test {
+    refuse_if(working_numbers < WORKING_NUMBERS || outputs < case.t, 10)
+}
+
+/// Refusal 10 of writing: fewer bytes than the written file has.
+pub fn file_memory(file_bytes: usize, lent_bytes: usize) -> Test {
+    refuse_if(lent_bytes < file_bytes, 10)
+}
