@@ -3,6 +3,12 @@ pub mod RefusalsLaws
 pub mod LimitsLaws
 pub mod LayoutLaws
 pub mod KeepsLaws
+pub mod SymbolsLaws
+pub mod MarksLaws
+pub mod RulesLaws
+pub mod TimesLaws
+pub mod LiteralLaws
+pub mod ProfitLaws
 pub mod LeadsLaws
 pub mod TriedLaws
 pub mod CapacityLaws
@@ -14,5 +20,6 @@ pub mod RereadLaws
 pub mod RewrittenLaws
 pub mod AcceptedLaws
 pub mod AnswersLaws
+pub mod CodecLaws
 pub mod Days
 pub mod Promises

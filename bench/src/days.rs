@@ -1,0 +1,79 @@
+//! The days that are timed.
+
+use crate::library::Case;
+
+/// Prices of the source's Table III, in mills.
+const SOURCE_PRICES: [u16; 24] = [
+    26950, 25817, 22209, 21219, 19668, 19800, 24167, 26950, 40700, 44110, 45177, 47025, 47773, 46200, 44033, 44550, 46200,
+    48950, 48840, 45100, 43252, 44000, 44000, 25850,
+];
+
+/// The source's unit over so many hours, its prices repeated.
+fn source(hours: usize) -> Case {
+    let mut prices = [0; 48];
+    for (k, price) in prices.iter_mut().enumerate().take(hours) {
+        *price = SOURCE_PRICES[k % 24];
+    }
+    let mut case = wide(0, hours);
+    case.capacity = 294;
+    case.minimum = 112;
+    case.rampup = 60;
+    case.rampdown = 50;
+    case.minup = 3;
+    case.mindown = 3;
+    case.variable = 38_000;
+    case.fixed = 100_000;
+    case.startup = 850_000;
+    case.shutdown = 56_000;
+    case.initial = 170;
+    case.elapsed = 11;
+    case.rise = [37, 75, 112, 0, 0, 0, 0, 0];
+    case.fall = [112, 70, 30, 0, 0, 0, 0, 0];
+    case.rises = 3;
+    case.falls = 3;
+    case.prices = prices;
+    case
+}
+
+/// Capacity 400, minimum 1, both ramps as given, trajectories of one entry, minimum times 8, random prices.
+fn wide(ramp: u16, hours: usize) -> Case {
+    let mut state = 0x9e37_79b9_7f4a_7c15u64;
+    let mut prices = [0; 48];
+    for price in prices.iter_mut().take(hours) {
+        state ^= state << 13;
+        state ^= state >> 7;
+        state ^= state << 17;
+        *price = (state % 60_000) as u16;
+    }
+    Case {
+        capacity: 400,
+        minimum: 1,
+        rampup: ramp,
+        rampdown: ramp,
+        minup: 8,
+        mindown: 8,
+        variable: 30_000,
+        fixed: 100_000,
+        startup: 850_000,
+        shutdown: 56_000,
+        initial: 0,
+        elapsed: 8,
+        rise: [1, 0, 0, 0, 0, 0, 0, 0],
+        fall: [1, 0, 0, 0, 0, 0, 0, 0],
+        prices,
+        orders: [0; 48],
+        rises: 1,
+        falls: 1,
+        hours,
+    }
+}
+
+/// Every day with its name.
+pub fn all() -> Vec<(&'static str, Case)> {
+    vec![
+        ("(a) the source's day, 24 h", source(24)),
+        ("(b) the source's day twice, 48 h", source(48)),
+        ("(c) 400 outputs, ramps 400, 48 h", wide(400, 48)),
+        ("(d) 400 outputs, ramps 20, 48 h", wide(20, 48)),
+    ]
+}
