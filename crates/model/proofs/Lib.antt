@@ -20,6 +20,11 @@ pub mod RereadLaws
 pub mod RewrittenLaws
 pub mod AcceptedLaws
 pub mod AnswersLaws
+pub mod ScheduleLaws
+pub mod NumbersLaws
+pub mod SetsLaws
+pub mod FilledLaws
+pub mod PartedLaws
 pub mod CodecLaws
 pub mod Days
 pub mod Promises

@@ -1,0 +1,4 @@
+-- Laws of the crate's own definitions, and the round trip.
+pub mod CountsLaws
+pub mod SectionsLaws
+pub mod RoundTrip

@@ -1,0 +1,47 @@
+-- `codec::admit` meets its contract. The record is zeroed only where it has no refusal, and so has counts within the
+-- limits. Assumes nothing.
+use mathlib.Core.Path.{_≡_, sym, _∙_}
+use borrow.Author.Needs.{needs}
+use Rattle.model.specs.Refusals.{refusalOf}
+use Rattle.model.proofs.CodecLaws.{admitOf-refused, admitOf-accepted}
+use Rattle.codec.proofs.CountsLaws.{refusalOf→counted}
+use Rattle.codec.proofs.admit.Statement.{statement}
+use Rattle.codec.proofs.admit.Tie as tie
+
+-- the record has no refusal
+within : (c : tie.Else1) → refusalOf (c .before .before .args .case) ≡ 0
+within c = sym (c .before .refusal-of .ensures) ∙ c .if1 .left
+
+refusal-of-requires : tie.Need-refusal-of-requires
+refusal-of-requires c κs = search needs
+
+reading-of-requires : tie.Need-reading-of-requires
+reading-of-requires c κs = search needs
+
+returns : tie.Need-returns
+returns c =
+    let case = c .before .before .before .args .case in
+    let call = c .before .before .refusal-of in
+    cc (admitOf-refused case (λ e. c .before .if1 .taken (call .ensures ∙ e)) case)
+
+zeroed-requires : tie.Need-zeroed-requires
+zeroed-requires c κs = refusalOf→counted (c .before .before .args .case) (within c)
+
+reading-of-requires-2 : tie.Need-reading-of-requires-2
+reading-of-requires-2 c κs = search needs
+
+returns-2 : tie.Need-returns-2
+returns-2 c =
+    let here = c .before .before in
+    cc (admitOf-accepted (here .before .before .args .case) (within here))
+
+pub admit-spec : {M : Type 1} → statement M
+admit-spec =
+    tie.close
+    (tie.spec
+    refusal-of-requires
+    reading-of-requires
+    returns
+    zeroed-requires
+    reading-of-requires-2
+    returns-2)

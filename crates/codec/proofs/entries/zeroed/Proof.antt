@@ -1,0 +1,53 @@
+-- `codec::entries::zeroed` meets its contract. Only the arrays change, each by its own count. Assumes nothing.
+use borrow.Author.Needs.{needs}
+use Rattle.model.specs.Layout.{zeroed}
+use Rattle.codec.proofs.entries.zeroed.Statement.{statement}
+use Rattle.codec.proofs.entries.zeroed.Tie as tie
+
+first-outputs-requires : tie.Need-first-outputs-requires
+first-outputs-requires c κs = search needs
+
+first-outputs-requires-2 : tie.Need-first-outputs-requires-2
+first-outputs-requires-2 c κs = search needs
+
+first-prices-requires : tie.Need-first-prices-requires
+first-prices-requires c κs = search needs
+
+first-orders-requires : tie.Need-first-orders-requires
+first-orders-requires c κs = search needs
+
+returns : tie.Need-returns
+unfolding zeroed
+returns c =
+    let case = c .before .before .before .before .before .before .before .before .args .case in
+    λ i. record {
+      capacity = case .capacity;
+      minimum = case .minimum;
+      rampup = case .rampup;
+      rampdown = case .rampdown;
+      minup = case .minup;
+      mindown = case .mindown;
+      variable = case .variable;
+      fixed = case .fixed;
+      startup = case .startup;
+      shutdown = case .shutdown;
+      initial = case .initial;
+      elapsed = case .elapsed;
+      rise = c .before .before .before .first-outputs .ensures i;
+      fall = c .before .before .first-outputs2 .ensures i;
+      prices = c .before .first-prices .ensures i;
+      orders = c .first-orders .ensures i;
+      rises = case .rises;
+      falls = case .falls;
+      hours = case .hours;
+    }
+
+pub zeroed-spec : {M : Type 1} → statement M
+zeroed-spec =
+    tie.close
+    (tie.spec
+    first-outputs-requires
+    first-outputs-requires-2
+    first-prices-requires
+    first-orders-requires
+    returns)

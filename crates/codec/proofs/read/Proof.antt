@@ -1,0 +1,88 @@
+-- `codec::read` meets its contract. Neither 1 nor 2 applies where the case is read, so that its sections lie within
+-- the file. Assumes nothing.
+use mathlib.Core.Path.{_≡_, sym, _∙_}
+use mathlib.Core.Bool.{false}
+use mathlib.Core.List.{List}
+use Prim.Native.Nat.{ℕ}
+use borrow.Author.Needs.{needs}
+use Rattle.model.specs.Refusals.{refusal1, refusal2File}
+use Rattle.model.proofs.PartedLaws.{refusal1-long}
+use Rattle.model.proofs.CodecLaws.{readOf-one, readOf-two, readOf-case}
+use Rattle.codec.proofs.read.Statement.{statement}
+use Rattle.codec.proofs.read.Tie as tie
+
+-- neither 1 nor 2 applies to the file
+abbrev file1 : tie.Else1 → List ℕ
+file1 c = c .before .before .before .args .file .now
+
+off1 : (c : tie.Else1) → refusal1 (file1 c) ≡ false
+off1 c = sym (c .before .refusal1 .ensures) ∙ c .if1 .left
+
+abbrev file2 : tie.Else2 → List ℕ
+file2 c = file1 (c .before .before)
+
+off2 : (c : tie.Else2) → refusal2File (file2 c) ≡ false
+off2 c = sym (c .before .refusal2-file .ensures) ∙ c .if2 .left
+
+refusal1-requires : tie.Need-refusal1-requires
+refusal1-requires c κs = search needs
+
+blank-requires : tie.Need-blank-requires
+blank-requires c κs = search needs
+
+reading-of-requires : tie.Need-reading-of-requires
+reading-of-requires c κs = search needs
+
+returns : tie.Need-returns
+returns c =
+    let here = c .before .before in
+    let file = here .before .before .before .args .file .now in
+    let on1 = sym (here .before .refusal1 .ensures) ∙ here .if1 .taken in
+    c .reading-of .ensures ∙ readOf-one file on1 (c .before .blank .result)
+
+refusal2-file-requires : tie.Need-refusal2-file-requires
+refusal2-file-requires c κs = refusal1-long (file1 c) (off1 c)
+
+blank-requires-2 : tie.Need-blank-requires-2
+blank-requires-2 c κs = search needs
+
+reading-of-requires-2 : tie.Need-reading-of-requires-2
+reading-of-requires-2 c κs = search needs
+
+returns-2 : tie.Need-returns-2
+returns-2 c =
+    let here = c .before .before in
+    let earlier = here .before .before in
+    let on2 = sym (here .before .refusal2-file .ensures) ∙ here .if2 .taken in
+    c .reading-of2 .ensures ∙ readOf-two (file1 earlier) (off1 earlier) on2 (c .before .blank2 .result)
+
+case-of-requires : tie.Need-case-of-requires
+case-of-requires c κs = (off1 (c .before .before), off2 c)
+
+refusal-of-requires : tie.Need-refusal-of-requires
+refusal-of-requires c κs = search needs
+
+reading-of-requires-3 : tie.Need-reading-of-requires-3
+reading-of-requires-3 c κs = search needs
+
+returns-3 : tie.Need-returns-3
+returns-3 c =
+    let here = c .before .before .before in
+    cc (readOf-case (file2 here) (off1 (here .before .before)) (off2 here))
+
+pub read-spec : {M : Type 1} → statement M
+read-spec =
+    tie.close
+    (tie.spec
+    refusal1-requires
+    blank-requires
+    reading-of-requires
+    returns
+    refusal2-file-requires
+    blank-requires-2
+    reading-of-requires-2
+    returns-2
+    case-of-requires
+    refusal-of-requires
+    reading-of-requires-3
+    returns-3)

@@ -1,0 +1,3 @@
+-- Definitions that the contracts of the crate's own functions cite.
+pub mod Counts
+pub mod Sections

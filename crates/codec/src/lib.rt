@@ -1,0 +1,133 @@
+// Reads a case file, writes one, and admits a case record: model's specs/Answers say what each answers and leaves.
+// Nothing outside the published limits is accepted: a file is refused by 1 to 8, a record by 2 to 8, and a writing
+// with too few bytes lent by 10. A refusal leaves the lent bytes as they are.
+mod entries;
+mod fields;
+mod limits;
+mod numbers;
+mod pairs;
+mod sections;
+
+ghost use mathlib.Core.Path.{_≡_};
+ghost use mathlib.Core.Bool.{cond};
+ghost use Rattle.model.specs.Layout.{blank};
+ghost use Rattle.model.specs.Refusals.{refusalOf};
+ghost use Rattle.model.specs.Answers.{readingOf, readOf, admitOf, writeOf};
+use model::Case;
+use model::HOURS;
+use model::Hour;
+use model::Outcome;
+use model::Output;
+use model::Reading;
+use model::STAGES;
+use model::Written;
+
+// The number where its test applies, and else what the tests after it give.
+fn first_of(applies: bool, number: u8, rest: u8) -> u8
+    ensures { λ r. ⌜ r ≡ cond applies number rest ⌝ }
+{
+    if applies { number } else { rest }
+}
+
+// The number of a record's refusal, 2 to 8; 0 where it is within the limits.
+pub fn refusal_of(case: Case) -> u8
+    ensures { λ r. ⌜ r ≡ refusalOf case ⌝ }
+{
+    if limits::refusal2(case) {
+        return 2;
+    }
+    let three = limits::refusal3(case);
+    let four = limits::refusal4(case);
+    let five = limits::refusal5(case);
+    let six = limits::refusal6(case);
+    let seven = limits::refusal7(case);
+    let eight = limits::refusal8(case);
+    let from6 = first_of(six, 6, first_of(seven, 7, first_of(eight, 8, 0)));
+    first_of(three, 3, first_of(four, 4, first_of(five, 5, from6)))
+}
+
+// The record of zeros.
+fn blank() -> Case
+    ensures { λ r. ⌜ r ≡ blank ⌝ }
+{
+    Case {
+        capacity: Output(0),
+        minimum: Output(0),
+        rampup: Output(0),
+        rampdown: Output(0),
+        minup: Hour(0),
+        mindown: Hour(0),
+        variable: 0,
+        fixed: 0,
+        startup: 0,
+        shutdown: 0,
+        initial: Output(0),
+        elapsed: Hour(0),
+        rise: [Output(0); STAGES],
+        fall: [Output(0); STAGES],
+        prices: [0u16; HOURS],
+        orders: [0u8; HOURS],
+        rises: 0,
+        falls: 0,
+        hours: 0,
+    }
+}
+
+// The answer by a refusal's number: the record of zeros beside it; where it is 0, accepted with the record itself.
+fn reading_of(number: u8, case: Case) -> Reading
+    ensures { λ r. ⌜ r ≡ readingOf number case ⌝ }
+{
+    if number == 0 {
+        return Reading {
+            outcome: Outcome::Accepted,
+            case,
+        };
+    }
+    Reading {
+        outcome: Outcome::Refused(number),
+        case: blank(),
+    }
+}
+
+// The case of a file, with the entries past its counts zero, or the first refusal from 1 to 8 that applies.
+pub fn read(file: &[u8]) -> Reading
+    ensures { λ r. ⌜ r ≡ readOf (now (file .entry)) ⌝ }
+{
+    if pairs::refusal1(file) {
+        return reading_of(1, blank());
+    }
+    if pairs::refusal2_file(file) {
+        return reading_of(2, blank());
+    }
+    let case = sections::case_of(file);
+    reading_of(refusal_of(case), case)
+}
+
+// A record, with the entries past its counts zero, or the first refusal from 2 to 8 that applies.
+pub fn admit(case: Case) -> Reading
+    ensures { λ r. ⌜ r ≡ admitOf case ⌝ }
+{
+    let number = refusal_of(case);
+    if number != 0 {
+        return reading_of(number, case);
+    }
+    reading_of(0, entries::zeroed(case))
+}
+
+// Writes the file of a record to the front of the lent bytes and returns its length; the bytes past it stay. On a
+// refusal, the first from 2 to 8 that applies or 10, every lent byte stays.
+pub fn write(case: Case, bytes: &mut [u8]) -> Written
+    ensures { λ r. ⌜ r ≡ (writeOf case (now (bytes .entry))) .answer ⌝ }
+    ensures { λ _. ⌜ now (bytes .exit) ≡ (writeOf case (now (bytes .entry))) .lent ⌝ }
+{
+    let refusal = refusal_of(case);
+    if refusal != 0 {
+        return Written::Refused(refusal);
+    }
+    let n = fields::file_length(case);
+    if bytes.len() < n {
+        return Written::Refused(10);
+    }
+    fields::put_case(case, bytes);
+    Written::Bytes(n)
+}
