@@ -1,4 +1,3 @@
 -- Laws of the crate's own definitions, and the round trip.
-pub mod CountsLaws
 pub mod SectionsLaws
 pub mod RoundTrip

@@ -3,7 +3,7 @@ ghost use mathlib.Core.Path.{_≡_};
 ghost use Prim.Native.Nat.{_≤_};
 ghost use lib.ListN.{getD};
 ghost use Rattle.model.specs.Layout.{padded, noOutput, zeroed};
-ghost use Rattle.codec.specs.Counts.{Counted};
+ghost use Rattle.limits.specs.Counts.{Counted};
 use model::Case;
 use model::HOURS;
 use model::Output;

@@ -6,7 +6,7 @@ ghost use Prim.Native.Nat.{_+_, _*_, _≤_};
 ghost use lib.ListN.{length};
 ghost use lib.Seq.{sets};
 ghost use Rattle.model.specs.Layout.{bytes, joined, stageBytes, pairBytes, unitBytes, hourBytes, bytesOf};
-ghost use Rattle.codec.specs.Counts.{Counted};
+ghost use Rattle.limits.specs.Counts.{Counted};
 use crate::numbers::put_long;
 use crate::numbers::put_word;
 use model::Case;

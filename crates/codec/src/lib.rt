@@ -3,15 +3,12 @@
 // with too few bytes lent by 10. A refusal leaves the lent bytes as they are.
 mod entries;
 mod fields;
-mod limits;
 mod numbers;
 mod pairs;
 mod sections;
 
 ghost use mathlib.Core.Path.{_≡_};
-ghost use mathlib.Core.Bool.{cond};
 ghost use Rattle.model.specs.Layout.{blank};
-ghost use Rattle.model.specs.Refusals.{refusalOf};
 ghost use Rattle.model.specs.Answers.{readingOf, readOf, admitOf, writeOf};
 use model::Case;
 use model::HOURS;
@@ -21,30 +18,6 @@ use model::Output;
 use model::Reading;
 use model::STAGES;
 use model::Written;
-
-// The number where its test applies, and else what the tests after it give.
-fn first_of(applies: bool, number: u8, rest: u8) -> u8
-    ensures { λ r. ⌜ r ≡ cond applies number rest ⌝ }
-{
-    if applies { number } else { rest }
-}
-
-// The number of a record's refusal, 2 to 8; 0 where it is within the limits.
-pub fn refusal_of(case: Case) -> u8
-    ensures { λ r. ⌜ r ≡ refusalOf case ⌝ }
-{
-    if limits::refusal2(case) {
-        return 2;
-    }
-    let three = limits::refusal3(case);
-    let four = limits::refusal4(case);
-    let five = limits::refusal5(case);
-    let six = limits::refusal6(case);
-    let seven = limits::refusal7(case);
-    let eight = limits::refusal8(case);
-    let from6 = first_of(six, 6, first_of(seven, 7, first_of(eight, 8, 0)));
-    first_of(three, 3, first_of(four, 4, first_of(five, 5, from6)))
-}
 
 // The record of zeros.
 fn blank() -> Case
@@ -100,14 +73,14 @@ pub fn read(file: &[u8]) -> Reading
         return reading_of(2, blank());
     }
     let case = sections::case_of(file);
-    reading_of(refusal_of(case), case)
+    reading_of(limits::refusal_of(case), case)
 }
 
 // A record, with the entries past its counts zero, or the first refusal from 2 to 8 that applies.
 pub fn admit(case: Case) -> Reading
     ensures { λ r. ⌜ r ≡ admitOf case ⌝ }
 {
-    let number = refusal_of(case);
+    let number = limits::refusal_of(case);
     if number != 0 {
         return reading_of(number, case);
     }
@@ -120,7 +93,7 @@ pub fn write(case: Case, bytes: &mut [u8]) -> Written
     ensures { λ r. ⌜ r ≡ (writeOf case (now (bytes .entry))) .answer ⌝ }
     ensures { λ _. ⌜ now (bytes .exit) ≡ (writeOf case (now (bytes .entry))) .lent ⌝ }
 {
-    let refusal = refusal_of(case);
+    let refusal = limits::refusal_of(case);
     if refusal != 0 {
         return Written::Refused(refusal);
     }

@@ -5,8 +5,8 @@ ghost use Prim.Native.Nat.{_/_, _≤_, _<_};
 ghost use lib.ListN.{length};
 ghost use Rattle.model.specs.Layout.{offsetAt, lengthAt, endAt, sectionAt};
 ghost use Rattle.model.specs.Refusals.{refusal1, misfits, refusal2File};
-use crate::limits::counted;
 use crate::numbers::word;
+use limits::counted;
 use model::HOURS;
 use model::STAGES;
 

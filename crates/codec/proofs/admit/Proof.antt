@@ -4,7 +4,7 @@ use mathlib.Core.Path.{_≡_, sym, _∙_}
 use borrow.Author.Needs.{needs}
 use Rattle.model.specs.Refusals.{refusalOf}
 use Rattle.model.proofs.CodecLaws.{admitOf-refused, admitOf-accepted}
-use Rattle.codec.proofs.CountsLaws.{refusalOf→counted}
+use Rattle.limits.proofs.CountsLaws.{refusalOf→counted}
 use Rattle.codec.proofs.admit.Statement.{statement}
 use Rattle.codec.proofs.admit.Tie as tie
 

@@ -10,7 +10,7 @@ use Rattle.model.specs.Layout.{bytesOf}
 use Rattle.model.specs.Refusals.{refusalOf}
 use Rattle.model.proofs.WrittenLaws.{length-bytesOf}
 use Rattle.model.proofs.CodecLaws.{writeOf-refused, writeOf-short, writeOf-done}
-use Rattle.codec.proofs.CountsLaws.{refusalOf→counted}
+use Rattle.limits.proofs.CountsLaws.{refusalOf→counted}
 use Rattle.codec.proofs.write.Statement.{statement}
 use Rattle.codec.proofs.write.Tie as tie
 

@@ -1,0 +1,2 @@
+-- Laws of counts within the limits.
+pub mod CountsLaws

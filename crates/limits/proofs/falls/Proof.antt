@@ -1,0 +1,68 @@
+-- `limits::falls` meets its contract. The invariant: `so` is the test of the steps passed. Assumes nothing.
+use mathlib.Core.Path.{_≡_, ap, _∙_}
+use Prim.Native.Nat.{suc, _-_, _≤_}
+use native.Mathlib.Omega.{arith}
+use lib.Dec.{ltb}
+use Rattle.model.specs.Symbols.{every, stage}
+use Rattle.model.proofs.RefusalsLaws.{every-none, every-more, stage-here, stage-next}
+use Rattle.limits.proofs.falls.Statement.{statement}
+use Rattle.limits.proofs.falls.Tie as tie
+
+abbrev Inv-loop : tie.InvT-loop
+Inv-loop steps outputs so₀ i₀ so i = (i ≤ steps) × (so ≡ every (λ i. ltb (stage outputs (suc i)) (stage outputs i)) i)
+
+abbrev μ-loop : tie.MeasureT-loop
+μ-loop steps outputs so₀ i₀ so i = steps - i
+
+loop-holds : tie.Need-loop-holds Inv-loop μ-loop
+loop-holds c = (omega arith, every-none _)
+
+mul-a : tie.Need-mul-a Inv-loop μ-loop
+mul-a c = omega arith
+
+array-copy-out-a : tie.Need-array-copy-out-a Inv-loop μ-loop
+array-copy-out-a c = omega arith
+
+add-b : tie.Need-add-b Inv-loop μ-loop
+add-b c = omega arith
+
+mul-b : tie.Need-mul-b Inv-loop μ-loop
+mul-b c = omega arith
+
+array-copy-out-b : tie.Need-array-copy-out-b Inv-loop μ-loop
+array-copy-out-b c = omega arith
+
+add-i : tie.Need-add-i Inv-loop μ-loop
+add-i c = omega arith
+
+loop-less : tie.Need-loop-less Inv-loop μ-loop
+loop-less c = omega arith
+
+loop-again : tie.Need-loop-again Inv-loop μ-loop
+loop-again c =
+    let l = c .before .before .before .before .before .loop in
+    let outputs = c .before .before .before .before .before .before .args .t1 in
+    (omega arith, every-more _ (l .i) (l .inv .1) (cc (stage-here outputs (l .i), stage-next outputs (l .i))))
+
+returns : tie.Need-returns Inv-loop μ-loop
+returns c =
+    let l = c .before .loop in
+    let e : l .i ≡ c .before .before .args .steps = omega arith in
+    l .inv .1 ∙ ap (every _) e
+
+pub falls-spec : {M : Type 1} → statement M
+falls-spec =
+    tie.close
+    (tie.spec
+    Inv-loop
+    μ-loop
+    loop-holds
+    mul-a
+    array-copy-out-a
+    add-b
+    mul-b
+    array-copy-out-b
+    add-i
+    loop-less
+    loop-again
+    returns)

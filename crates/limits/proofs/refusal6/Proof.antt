@@ -1,0 +1,18 @@
+-- `limits::refusal6` meets its contract. The test is the definition's own. Assumes nothing.
+use borrow.Author.Needs.{needs}
+use Rattle.model.specs.Refusals.{refusal6}
+use Rattle.limits.proofs.refusal6.Statement.{statement}
+use Rattle.limits.proofs.refusal6.Tie as tie
+
+climbs-requires : tie.Need-climbs-requires
+climbs-requires c κs = search needs
+
+descends-requires : tie.Need-descends-requires
+descends-requires c κs = search needs
+
+returns : tie.Need-returns
+unfolding refusal6
+returns c = cc
+
+pub refusal6-spec : {M : Type 1} → statement M
+refusal6-spec = tie.close (tie.spec climbs-requires descends-requires returns)

@@ -1,0 +1,21 @@
+-- `limits::refusal7` meets its contract. The test is the definition's own. Assumes nothing.
+use borrow.Author.Needs.{needs}
+use Rattle.model.specs.Refusals.{refusal7}
+use Rattle.limits.proofs.refusal7.Statement.{statement}
+use Rattle.limits.proofs.refusal7.Tie as tie
+
+between-requires : tie.Need-between-requires
+between-requires c κs = search needs
+
+between-requires-2 : tie.Need-between-requires-2
+between-requires-2 c κs = search needs
+
+cast-result : tie.Need-cast-result
+cast-result c = search needs
+
+returns : tie.Need-returns
+unfolding refusal7
+returns c = cc
+
+pub refusal7-spec : {M : Type 1} → statement M
+refusal7-spec = tie.close (tie.spec between-requires between-requires-2 cast-result returns)

@@ -1,0 +1,16 @@
+-- `limits::refusal8` meets its contract. The test is the definition's own; the hours have room in the array,
+-- since 2 does not apply. Assumes nothing.
+use borrow.Author.Needs.{needs}
+use Rattle.model.specs.Refusals.{refusal8}
+use Rattle.limits.proofs.refusal8.Statement.{statement}
+use Rattle.limits.proofs.refusal8.Tie as tie
+
+ordered-requires : tie.Need-ordered-requires
+ordered-requires c κs = search needs
+
+returns : tie.Need-returns
+unfolding refusal8
+returns c = cc
+
+pub refusal8-spec : {M : Type 1} → statement M
+refusal8-spec = tie.close (tie.spec ordered-requires returns)

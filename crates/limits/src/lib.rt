@@ -1,0 +1,199 @@
+// The refusals of a record, 2 to 8: one test for each number, and the first that applies (model's specs/Refusals).
+ghost use mathlib.Core.Bool.{cond};
+ghost use mathlib.Core.Path.{_≡_};
+ghost use Prim.Native.Nat.{suc, _≤_, _<_};
+ghost use lib.Dec.{leb, ltb};
+ghost use Rattle.model.specs.Symbols.{every, stage, hourly};
+ghost use Rattle.model.specs.Refusals.{within, refusal2, refusal3, refusal4, refusal5, refusal6, refusal7, refusal8};
+ghost use Rattle.model.specs.Refusals.{refusalOf};
+ghost use Rattle.model.specs.Refusals.{climbs, descends};
+ghost use Rattle.limits.specs.Counts.{Counted};
+use model::Case;
+use model::HOURS;
+use model::Output;
+use model::STAGES;
+
+// Megawatts: a capacity or a ramp, at the most.
+const MOST_OUTPUT: u16 = 400;
+
+// Hours: a minimum time, and h, at the most.
+const MOST_TIME: u16 = 8;
+
+const MOST_ELAPSED: u16 = 10000;
+
+// Mills: F, and A, B or C, at the most.
+const MOST_VARIABLE: u32 = 1000000;
+
+const MOST_CHARGE: u32 = 100000000;
+
+// The highest order byte: off-line.
+const MOST_ORDER: u8 = 2;
+
+// Whether a count is from 1 to `most`.
+pub fn counted(n: usize, most: usize) -> bool
+    ensures { λ r. ⌜ r ≡ within 1 most n ⌝ }
+{
+    (1 <= n) & (n <= most)
+}
+
+// Whether `least` ≤ x ≤ `most`.
+fn between(x: u16, least: u16, most: u16) -> bool
+    ensures { λ r. ⌜ r ≡ within least most x ⌝ }
+{
+    (least <= x) & (x <= most)
+}
+
+// A count.
+fn refusal2(case: Case) -> bool
+    ensures { λ r. ⌜ r ≡ refusal2 case ⌝ }
+{
+    !(counted(case.rises, STAGES) & (counted(case.falls, STAGES) & counted(case.hours, HOURS)))
+}
+
+// Minimum output and capacity.
+fn refusal3(case: Case) -> bool
+    ensures { λ r. ⌜ r ≡ refusal3 case ⌝ }
+{
+    !(between(case.minimum.0, 1, case.capacity.0) & (case.capacity.0 <= MOST_OUTPUT))
+}
+
+// Ramps and minimum times.
+fn refusal4(case: Case) -> bool
+    ensures { λ r. ⌜ r ≡ refusal4 case ⌝ }
+{
+    let up = between(case.rampup.0, 1, MOST_OUTPUT);
+    let down = between(case.rampdown.0, 1, MOST_OUTPUT);
+    let times = between(case.minup.0, 1, MOST_TIME) & between(case.mindown.0, 1, MOST_TIME);
+    !(up & (down & times))
+}
+
+// Money.
+fn refusal5(case: Case) -> bool
+    ensures { λ r. ⌜ r ≡ refusal5 case ⌝ }
+{
+    let charges = (case.fixed <= MOST_CHARGE)
+        & ((case.startup <= MOST_CHARGE) & (case.shutdown <= MOST_CHARGE));
+    !((case.variable <= MOST_VARIABLE) & charges)
+}
+
+// Whether each of the first outputs is below the next, over `steps` steps.
+fn rises(outputs: [Output; STAGES], steps: usize) -> bool
+    requires { ⌜ steps < 8 ⌝ }
+    ensures { λ r. ⌜ r ≡ every (λ i. ltb (stage outputs i) (stage outputs (suc i))) steps ⌝ }
+{
+    let mut so = true;
+    let mut i = 0;
+    while i < steps {
+        let a = outputs[i];
+        let b = outputs[i + 1];
+        so = so & (a.0 < b.0);
+        i += 1;
+    }
+    so
+}
+
+// Whether each of the first outputs is above the next, over `steps` steps.
+fn falls(outputs: [Output; STAGES], steps: usize) -> bool
+    requires { ⌜ steps < 8 ⌝ }
+    ensures { λ r. ⌜ r ≡ every (λ i. ltb (stage outputs (suc i)) (stage outputs i)) steps ⌝ }
+{
+    let mut so = true;
+    let mut i = 0;
+    while i < steps {
+        let a = outputs[i];
+        let b = outputs[i + 1];
+        so = so & (b.0 < a.0);
+        i += 1;
+    }
+    so
+}
+
+// The start-up trajectory, with a count within its limits, rises strictly from 1 or more to the minimum output.
+fn climbs(case: Case) -> bool
+    requires { ⌜ Counted case ⌝ }
+    ensures { λ r. ⌜ r ≡ climbs case ⌝ }
+{
+    let rise = case.rise;
+    let steps = case.rises - 1;
+    let first = rise[0];
+    let last = rise[steps];
+    (1 <= first.0) & (rises(rise, steps) & (last.0 == case.minimum.0))
+}
+
+// The shut-down trajectory, with a count within its limits, falls strictly from the minimum output to 1 or more.
+fn descends(case: Case) -> bool
+    requires { ⌜ Counted case ⌝ }
+    ensures { λ r. ⌜ r ≡ descends case ⌝ }
+{
+    let fall = case.fall;
+    let steps = case.falls - 1;
+    let first = fall[0];
+    let last = fall[steps];
+    (first.0 == case.minimum.0) & (falls(fall, steps) & (1 <= last.0))
+}
+
+// The trajectories.
+fn refusal6(case: Case) -> bool
+    requires { ⌜ Counted case ⌝ }
+    ensures { λ r. ⌜ r ≡ refusal6 case ⌝ }
+{
+    !(climbs(case) & descends(case))
+}
+
+// h, p(0), and p(0) above 0 with h below UD.
+fn refusal7(case: Case) -> bool
+    ensures { λ r. ⌜ r ≡ refusal7 case ⌝ }
+{
+    let output = case.initial.0;
+    let elapsed = case.elapsed.0;
+    let open = (output == 0) | between(output, case.minimum.0, case.capacity.0);
+    !between(elapsed, 1, MOST_ELAPSED)
+        | (!open | ((0 < output) & ((elapsed as usize) < case.rises)))
+}
+
+// Whether each of the first n order bytes is 0, 1 or 2.
+fn ordered(orders: [u8; HOURS], n: usize) -> bool
+    requires { ⌜ n ≤ 48 ⌝ }
+    ensures { λ r. ⌜ r ≡ every (λ k. leb (hourly orders k) 2) n ⌝ }
+{
+    let mut so = true;
+    let mut i = 0;
+    while i < n {
+        so = so & (orders[i] <= MOST_ORDER);
+        i += 1;
+    }
+    so
+}
+
+// The order bytes of the day.
+fn refusal8(case: Case) -> bool
+    requires { ⌜ Counted case ⌝ }
+    ensures { λ r. ⌜ r ≡ refusal8 case ⌝ }
+{
+    let orders = case.orders;
+    !ordered(orders, case.hours)
+}
+
+// The number where its test applies, and else what the tests after it give.
+fn first_of(applies: bool, number: u8, rest: u8) -> u8
+    ensures { λ r. ⌜ r ≡ cond applies number rest ⌝ }
+{
+    if applies { number } else { rest }
+}
+
+// The number of a record's refusal, 2 to 8; 0 where it is within the limits.
+pub fn refusal_of(case: Case) -> u8
+    ensures { λ r. ⌜ r ≡ refusalOf case ⌝ }
+{
+    if refusal2(case) {
+        return 2;
+    }
+    let three = refusal3(case);
+    let four = refusal4(case);
+    let five = refusal5(case);
+    let six = refusal6(case);
+    let seven = refusal7(case);
+    let eight = refusal8(case);
+    let from6 = first_of(six, 6, first_of(seven, 7, first_of(eight, 8, 0)));
+    first_of(three, 3, first_of(four, 4, first_of(five, 5, from6)))
+}
