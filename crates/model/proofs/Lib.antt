@@ -21,6 +21,7 @@ pub mod RewrittenLaws
 pub mod AcceptedLaws
 pub mod AnswersLaws
 pub mod ScheduleLaws
+pub mod AdmitLaws
 pub mod NumbersLaws
 pub mod SetsLaws
 pub mod FilledLaws

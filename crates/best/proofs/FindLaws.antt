@@ -1,0 +1,82 @@
+-- What the search leaves is what the papers ask for: the best list and its profit, or no schedule. Assumes nothing.
+use mathlib.Core.Path.{_≡_, refl, sym, ap, _∙_, subst}
+use mathlib.Core.Bool.{Bool, true, false, true≢false}
+use mathlib.Core.List.{List, _++_}
+use mathlib.Core.Option.{Option, none, some}
+use Prim.Native.Nat.{ℕ, _≤_, _<_, _^_}
+use native.Mathlib.Omega.{arith}
+use lib.IntN.{ℤ}
+use lib.ListN.{length, getD, drop}
+use lib.Signed.{leZ}
+use Rattle.model.specs.declared.Case.{Case}
+use Rattle.model.specs.declared.Plan.the-variants.{Found as Planned, Refused}
+use Rattle.model.specs.Limits.{workLength}
+use Rattle.model.specs.Profit.{profitOf}
+use Rattle.model.specs.Best.{bestOf}
+use Rattle.model.specs.Refusals.{refusalOf}
+use Rattle.model.specs.Answers.{Scheduling, cleared, planned}
+use Rattle.machine.specs.Coded.{missing, coded}
+use Rattle.machine.specs.Search.{maybe, planAt}
+use Rattle.machine.specs.Moves.{machine, worth}
+use Rattle.machine.specs.Fit.{Fit}
+use Rattle.machine.specs.Cases.{unitOf, openingOf}
+use Rattle.machine.proofs.CodedLaws.{low, Bounded, gone, amount}
+use Rattle.machine.proofs.Sizes.{worth-size}
+use Rattle.machine.proofs.Bests.{worth-profit, worth-none, planAt-best, length-planAt}
+use Rattle.cells.specs.Table.{Found}
+
+-- a worth of a day is above the code of none
+amount-above : (v : ℤ) → Bounded (2 ^ 42) (some v) → leZ v missing ≡ false
+amount-above v (amount b) = low (2 ^ 42) (omega arith) v b
+
+module _ (c : Case) (e : refusalOf c ≡ 0) (fit : Fit (unitOf c)) (work : List ℤ) (ys zs : List ℕ) (z : ℤ)
+    (found : Found (unitOf c) (openingOf c) ys zs z) where
+  -- the number tells whether there is a list
+  present : (l : List ℕ) → bestOf c ≡ some l → leZ z missing ≡ false
+  present l b =
+      let w = worth-profit c e l b in
+      rw (found .profit ∙ ap coded w)
+      (amount-above (profitOf c l) (subst (Bounded (2 ^ 42)) w (worth-size (unitOf c) fit 0 (openingOf c))))
+
+  absent : bestOf c ≡ none → leZ z missing ≡ true
+  absent b = rw (found .profit ∙ ap coded (worth-none c e b)) refl
+
+  -- what is left, where the number says that there is none
+  pub find-none : leZ z missing ≡ true
+      → (Refused 11 ≡ planned c work ys (bestOf c) .answer) × (zs ≡ planned c work ys (bestOf c) .outputs)
+  unfolding planned
+  find-none t = go (bestOf c) refl
+    where
+      go : (r : Option (List ℕ)) → bestOf c ≡ r → (Refused 11 ≡ planned c work ys r .answer) × (zs ≡ planned c work ys r .outputs)
+      go none d = (refl, found .list ∙ ap (maybe ys _) (worth-none c e d))
+      go (some l) d = absurd (true≢false (sym t ∙ present l d))
+
+  -- and where it is a profit
+  pub find-some : leZ z missing ≡ false
+      → (Planned (record { 0 = z }) ≡ planned c work ys (bestOf c) .answer) × (zs ≡ planned c work ys (bestOf c) .outputs)
+  unfolding planned unitOf
+  find-some t = go (bestOf c) refl
+    where
+      go : (r : Option (List ℕ)) → bestOf c ≡ r
+          → (Planned (record { 0 = z }) ≡ planned c work ys r .answer) × (zs ≡ planned c work ys r .outputs)
+      go none d = absurd (true≢false (sym (absent d) ∙ t))
+      go (some l) d =
+          let w = worth-profit c e l d in
+          let plan = planAt-best c e l d in
+          let long : c .hours ≡ length l = sym (length-planAt c e l d) ∙ ap length plan in (
+            ap (λ v. Planned (record { 0 = v })) (found .profit ∙ ap coded w),
+            found .list ∙ ap (maybe ys _) w ∙ ap (λ x. x ++ drop (c .hours) ys) plan ∙ ap (λ n. l ++ drop n ys) long,
+          )
+
+  pub find-work : planned c work ys (bestOf c) .work ≡ cleared workLength work
+  unfolding planned
+  find-work = go (bestOf c)
+    where
+      go : (r : Option (List ℕ)) → planned c work ys r .work ≡ cleared workLength work
+      go none = refl
+      go (some l) = refl
+
+-- zeroing the first numbers asks only what stands past them
+pub cleared-past : (n : ℕ) (xs ys : List ℤ) → drop n ys ≡ drop n xs → cleared n ys ≡ cleared n xs
+unfolding cleared
+cleared-past n xs ys e = rw e

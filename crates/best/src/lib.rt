@@ -1,0 +1,91 @@
+// The best day of a case in lent memory: its list in the first outputs, its profit, and the working numbers zeroed; 11 exactly where no
+// list keeps every rule. What is answered and left for every input is model's specs/Answers, `scheduleOf`; the best list is `bestOf` of
+// model's specs/Best. A case outside the limits is refused by 2 to 8, memory that is too short by 10, and nothing is changed then.
+mod unit;
+mod wipe;
+
+use machine::State;
+use machine::Unit;
+use model::Case;
+use model::HalfMills;
+use model::Outcome;
+use model::Plan;
+use model::Reading;
+use model::WORK;
+ghost use mathlib.Core.Path.{_≡_};
+ghost use Prim.Native.Nat.{_≤_};
+ghost use lib.ListN.{length, drop};
+ghost use Rattle.model.specs.Limits.{workLength};
+ghost use Rattle.model.specs.Best.{bestOf};
+ghost use Rattle.model.specs.Refusals.{refusalOf, refusal10};
+ghost use Rattle.model.specs.Answers.{outcomeNumber, planned, scheduleOf};
+ghost use Rattle.machine.specs.Fit.{Fit};
+ghost use Rattle.machine.specs.Proper.{Proper};
+ghost use Rattle.cells.specs.Table.{Found};
+
+// The number of a refused reading.
+fn number_of(outcome: Outcome) -> u8
+    ensures { λ r. ⌜ r ≡ outcomeNumber outcome ⌝ }
+{
+    match outcome {
+        Outcome::Accepted => 0,
+        Outcome::Refused(number) => number,
+    }
+}
+
+// The search in the first working numbers; those past them stay as they are.
+fn search_first(u: Unit, s: State, work: &mut [i64], outputs: &mut [u16]) -> HalfMills
+    requires { ⌜ Fit u ⌝ }
+    requires { ⌜ Proper u s ⌝ }
+    requires { ⌜ (u .hours ≤ length (now outputs)) × (workLength ≤ length (now work)) ⌝ }
+    ensures { λ r. ⌜ Found u s (now (outputs .entry)) (now (outputs .exit)) (r .0) ⌝ }
+    ensures { λ _. ⌜ drop workLength (now (work .exit)) ≡ drop workLength (now (work .entry)) ⌝ }
+{
+    search::search(u, s, &mut work[0..WORK], outputs)
+}
+
+// The best list of a case within the limits, in memory that is long enough: the working numbers are zeroed, and the list, if there is one,
+// fills the first outputs.
+fn find(case: Case, work: &mut [i64], outputs: &mut [u16]) -> Plan
+    requires { ⌜ refusalOf case ≡ 0 ⌝ }
+    requires { ⌜ (workLength ≤ length (now work)) × (case .hours ≤ length (now outputs)) ⌝ }
+    ensures answer { λ r. ⌜ r ≡ (planned case (now (work .entry)) (now (outputs .entry)) (bestOf case)) .answer ⌝ }
+    ensures work { λ _. ⌜ now (work .exit) ≡ (planned case (now (work .entry)) (now (outputs .entry)) (bestOf case)) .work ⌝ }
+    ensures outputs { λ _. ⌜ now (outputs .exit) ≡ (planned case (now (work .entry)) (now (outputs .entry)) (bestOf case)) .outputs ⌝ }
+{
+    let unit = unit::unit_of(case);
+    let opening = unit::opening_of(case);
+    let worth = search_first(unit, opening, work, outputs);
+    wipe::clear(work, WORK);
+    if money::absent(worth) {
+        return Plan::Refused(11);
+    }
+    Plan::Found(worth)
+}
+
+// The best list of the case of a reading. A refused reading is returned as it is, and the record of an accepted one is tested again. On 2
+// to 8 and on 10 nothing is changed.
+pub fn schedule(reading: Reading, work: &mut [i64], outputs: &mut [u16]) -> Plan
+    ensures answer { λ r. ⌜ r ≡ (scheduleOf (reading .outcome) (reading .case) (now (work .entry)) (now (outputs .entry))) .answer ⌝ }
+    ensures work { λ _. ⌜ now (work .exit)
+        ≡ (scheduleOf (reading .outcome) (reading .case) (now (work .entry)) (now (outputs .entry))) .work ⌝ }
+    ensures outputs { λ _. ⌜ now (outputs .exit)
+        ≡ (scheduleOf (reading .outcome) (reading .case) (now (work .entry)) (now (outputs .entry))) .outputs ⌝ }
+{
+    let outcome = reading.outcome;
+    let Outcome::Accepted = outcome else {
+        return Plan::Refused(number_of(outcome));
+    };
+    let case = reading.case;
+    let refusal = limits::refusal_of(case);
+    if refusal != 0 {
+        return Plan::Refused(refusal);
+    }
+    if work.len() < WORK {
+        return Plan::Refused(10);
+    }
+    if outputs.len() < case.hours {
+        return Plan::Refused(10);
+    }
+    find(case, work, outputs)
+}

@@ -1,0 +1,3 @@
+-- Laws behind the contracts of the search.
+pub mod TermsLaws
+pub mod PicksLaws
