@@ -1,0 +1,2 @@
+-- The first rule that fails.
+pub mod FirstLaws

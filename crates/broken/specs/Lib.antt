@@ -1,0 +1,3 @@
+-- What the contracts on the rules of an hour speak of.
+pub mod Elapsed
+pub mod Groups

@@ -1,0 +1,2 @@
+-- A sum that a loop adds up.
+pub mod SumLaws

@@ -1,0 +1,4 @@
+-- What the contracts on the numbers of an hour speak of.
+pub mod Within
+pub mod Sized
+pub mod Numbered

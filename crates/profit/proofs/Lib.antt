@@ -1,0 +1,2 @@
+-- The profit of a day, hour by hour.
+pub mod EarnedLaws

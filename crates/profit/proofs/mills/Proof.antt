@@ -1,0 +1,16 @@
+-- `profit::mills` meets its contract: 32 bits fit. Assumes nothing.
+use borrow.Author.Needs.{needs}
+use native.Mathlib.Omega.{arith}
+use mir.Syntax.{w64}
+use mir.Facts.{toZ-pos}
+use Rattle.profit.proofs.mills.Statement.{statement}
+use Rattle.profit.proofs.mills.Tie as tie
+
+cast-t2 : tie.Need-cast-t2
+cast-t2 c = search needs
+
+returns : tie.Need-returns
+returns c = toZ-pos w64 (omega arith)
+
+pub mills-spec : {M : Type 1} → statement M
+mills-spec = tie.close (tie.spec cast-t2 returns)

@@ -1,0 +1,2 @@
+-- What the contracts on money speak of.
+pub mod Worth

@@ -1,0 +1,3 @@
+-- Laws that the proofs of the check share.
+pub mod BreachLaws
+pub mod LimitedLaws
