@@ -1,0 +1,18 @@
+-- `exports::giqapsun_read` meets its contract: what `read` answers, laid out. Assumes nothing.
+use borrow.Author.Needs.{needs}
+use mathlib.Core.Path.{_∙_, ap}
+use Rattle.exports.specs.Boundary.{readingOut}
+use Rattle.exports.proofs.giqapsun_read.Statement.{statement}
+use Rattle.exports.proofs.giqapsun_read.Tie as tie
+
+read-requires : tie.Need-read-requires
+read-requires c κs = search needs
+
+reading-out-requires : tie.Need-reading-out-requires
+reading-out-requires c κs = search needs
+
+returns : tie.Need-returns
+returns c = c .reading-out .ensures ∙ ap readingOut (c .before .read .ensures)
+
+pub giqapsun-read-spec : {M : Type 1} → statement M
+giqapsun-read-spec = tie.close (tie.spec read-requires reading-out-requires returns)

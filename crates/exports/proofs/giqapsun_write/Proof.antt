@@ -1,0 +1,23 @@
+-- `exports::giqapsun_write` meets its contract: what `write` answers and leaves, laid out. Assumes nothing.
+use borrow.Author.Needs.{needs}
+use mathlib.Core.Path.{_∙_, ap}
+use Rattle.exports.specs.Boundary.{writtenOut}
+use Rattle.exports.proofs.giqapsun_write.Statement.{statement}
+use Rattle.exports.proofs.giqapsun_write.Tie as tie
+
+write-requires : tie.Need-write-requires
+write-requires c κs = search needs
+
+written-out-requires : tie.Need-written-out-requires
+written-out-requires c κs = search needs
+
+same-length : tie.Need-same-length
+same-length c = search needs
+
+returns : tie.Need-returns
+returns c =
+    let d = c .before .before .before .write .ensures in
+    (c .written-out .ensures ∙ ap writtenOut (d .0), d .1)
+
+pub giqapsun-write-spec : {M : Type 1} → statement M
+giqapsun-write-spec = tie.close (tie.spec write-requires written-out-requires same-length returns)

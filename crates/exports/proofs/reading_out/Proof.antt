@@ -1,0 +1,13 @@
+-- `exports::reading_out` meets its contract. Assumes nothing.
+use borrow.Author.Needs.{needs}
+use Rattle.exports.proofs.reading_out.Statement.{statement}
+use Rattle.exports.proofs.reading_out.Tie as tie
+
+number-out-requires : tie.Need-number-out-requires
+number-out-requires c κs = search needs
+
+returns : tie.Need-returns
+returns c = cc
+
+pub reading-out-spec : {M : Type 1} → statement M
+reading-out-spec = tie.close (tie.spec number-out-requires returns)

@@ -1,0 +1,2 @@
+-- How the answers are laid out for C.
+pub mod Boundary

@@ -1,0 +1,147 @@
+// The C boundary (include/giqapsun.h): each call takes and gives structs by value, with no logic of its own. The answers' numbers and
+// values are those of model's specs/Answers; specs/Boundary lays them out.
+use model::Case;
+use model::HalfMills;
+use model::Outcome;
+use model::Plan;
+use model::Reading;
+use model::Verdict;
+use model::Written;
+ghost use mathlib.Core.Path.{_≡_};
+ghost use Rattle.model.specs.declared.Outcome.the-variants.{Accepted};
+ghost use Rattle.model.specs.Answers.{outcomeNumber, readOf, writeOf, checkOf, scheduleOf};
+ghost use Rattle.exports.specs.Boundary.{readingOut, writtenOut, verdictOut, planOut};
+
+// The number of a refusal, or 0, and the record: zeros beside a refusal.
+#[repr(C)]
+pub struct GiqapsunReading {
+    pub number: u32,
+    pub case: Case,
+}
+
+// The number of a refusal, or 0, and how many bytes were written.
+#[repr(C)]
+pub struct GiqapsunWritten {
+    pub number: u32,
+    pub length: usize,
+}
+
+// The number of a refusal, or 0; the hour and the rule of a breach, or 0 and 0; the profit of a list that passes.
+#[repr(C)]
+pub struct GiqapsunVerdict {
+    pub number: u32,
+    pub hour: u32,
+    pub rule: u32,
+    pub profit: HalfMills,
+}
+
+// The number of a refusal, or 0, and the profit of the list that was found.
+#[repr(C)]
+pub struct GiqapsunPlan {
+    pub number: u32,
+    pub profit: HalfMills,
+}
+
+fn number_out(outcome: Outcome) -> u32
+    ensures { λ r. ⌜ r ≡ outcomeNumber outcome ⌝ }
+{
+    match outcome {
+        Outcome::Accepted => 0,
+        Outcome::Refused(number) => number as u32,
+    }
+}
+
+fn reading_out(reading: Reading) -> GiqapsunReading
+    ensures { λ r. ⌜ r ≡ readingOut reading ⌝ }
+{
+    let outcome = reading.outcome;
+    let case = reading.case;
+    GiqapsunReading {
+        number: number_out(outcome),
+        case,
+    }
+}
+
+fn written_out(written: Written) -> GiqapsunWritten
+    ensures { λ r. ⌜ r ≡ writtenOut written ⌝ }
+{
+    match written {
+        Written::Bytes(length) => GiqapsunWritten { number: 0, length },
+        Written::Refused(number) => GiqapsunWritten {
+            number: number as u32,
+            length: 0,
+        },
+    }
+}
+
+fn verdict_out(verdict: Verdict) -> GiqapsunVerdict
+    ensures { λ r. ⌜ r ≡ verdictOut verdict ⌝ }
+{
+    match verdict {
+        Verdict::Passes(profit) => GiqapsunVerdict {
+            number: 0,
+            hour: 0,
+            rule: 0,
+            profit,
+        },
+        Verdict::Breaks(breach) => GiqapsunVerdict {
+            number: 0,
+            hour: breach.hour.0 as u32,
+            rule: breach.rule as u32,
+            profit: HalfMills(0),
+        },
+        Verdict::Refused(number) => GiqapsunVerdict {
+            number: number as u32,
+            hour: 0,
+            rule: 0,
+            profit: HalfMills(0),
+        },
+    }
+}
+
+fn plan_out(plan: Plan) -> GiqapsunPlan
+    ensures { λ r. ⌜ r ≡ planOut plan ⌝ }
+{
+    match plan {
+        Plan::Found(profit) => GiqapsunPlan { number: 0, profit },
+        Plan::Refused(number) => GiqapsunPlan {
+            number: number as u32,
+            profit: HalfMills(0),
+        },
+    }
+}
+
+// Reads a case file.
+#[no_mangle]
+pub extern "C" fn giqapsun_read(file: &[u8]) -> GiqapsunReading
+    ensures { λ r. ⌜ r ≡ readingOut (readOf (now (file .entry))) ⌝ }
+{
+    reading_out(codec::read(file))
+}
+
+// Writes the file of a record to the front of the lent bytes; those past it, and all of them on a refusal, stay as they are.
+#[no_mangle]
+pub extern "C" fn giqapsun_write(case: Case, bytes: &mut [u8]) -> GiqapsunWritten
+    ensures answer { λ r. ⌜ r ≡ writtenOut ((writeOf case (now (bytes .entry))) .answer) ⌝ }
+    ensures lent { λ _. ⌜ now (bytes .exit) ≡ (writeOf case (now (bytes .entry))) .lent ⌝ }
+{
+    written_out(codec::write(case, bytes))
+}
+
+// The verdict of a list with a record.
+#[no_mangle]
+pub extern "C" fn giqapsun_check(case: Case, list: &[u16]) -> GiqapsunVerdict
+    ensures { λ r. ⌜ r ≡ verdictOut (checkOf Accepted case (now (list .entry))) ⌝ }
+{
+    verdict_out(rules::check(codec::admit(case), list))
+}
+
+// The best list of a record, in the first outputs; the first working numbers are zeroed. Nothing is changed on 2 to 8 and on 10.
+#[no_mangle]
+pub extern "C" fn giqapsun_best(case: Case, work: &mut [i64], outputs: &mut [u16]) -> GiqapsunPlan
+    ensures answer { λ r. ⌜ r ≡ planOut ((scheduleOf Accepted case (now (work .entry)) (now (outputs .entry))) .answer) ⌝ }
+    ensures work { λ _. ⌜ now (work .exit) ≡ (scheduleOf Accepted case (now (work .entry)) (now (outputs .entry))) .work ⌝ }
+    ensures outputs { λ _. ⌜ now (outputs .exit) ≡ (scheduleOf Accepted case (now (work .entry)) (now (outputs .entry))) .outputs ⌝ }
+{
+    plan_out(best::schedule(codec::admit(case), work, outputs))
+}
