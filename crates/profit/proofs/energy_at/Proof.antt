@@ -1,5 +1,8 @@
 -- `profit::energy_at` meets its contract: the outputs at the ends of the hour are added. Assumes nothing.
 use borrow.Author.Needs.{needs}
+use mathlib.Core.Path.{_∙_, sym, ap}
+use Prim.Native.Nat.{_+_}
+use Rattle.model.specs.Marks.{p}
 use Rattle.model.proofs.CheckLaws.{before-is}
 use Rattle.model.proofs.ProfitLaws.{energy-is}
 use Rattle.profit.proofs.energy_at.Statement.{statement}
@@ -20,8 +23,11 @@ add-result c = search needs
 returns : tie.Need-returns
 returns c =
     let a = c .before .before .before .args in
-    let l = a .list .now in
-    record { is = cc (energy-is (a .case) l (a .k), before-is (a .k)); most = search needs }
+    let p = p (a .case) (a .list .now) in
+    let now = c .before .output-at .ensures .is in
+    let earlier = c .output-at2 .ensures .is in
+    let sum = energy-is (a .case) (a .list .now) (a .k) ∙ ap (λ j. p (a .k) + p j) (before-is (a .k)) in
+    record { is = rw (now, earlier) (sym sum); most = search needs }
 
 pub energy-at-spec : {M : Type 1} → statement M
 energy-at-spec =

@@ -1,5 +1,6 @@
 -- `broken::limits::keeps5` meets its contract: its comparison is the constraint's own. Assumes nothing.
 use borrow.Author.Needs.{needs}
+use mathlib.Core.Path.{sym}
 use Rattle.model.proofs.ConstraintsLaws.{rule5-is}
 use Rattle.broken.proofs.limits.keeps5.Statement.{statement}
 use Rattle.broken.proofs.limits.keeps5.Tie as tie
@@ -23,7 +24,15 @@ add-result-3 : tie.Need-add-result-3
 add-result-3 c = search needs
 
 returns : tie.Need-returns
-returns c = λ l k h. cc (rule5-is (c .before .before .before .before .before .before .before .args .case) l k)
+returns c =
+    let third = c .before in
+    let second = third .before in
+    let first = second .before .before in
+    let a = first .scaled .ensures .is in
+    let b = second .scaled2 .ensures .is in
+    let d = third .scaled3 .ensures .is in
+    let case = first .before .before .before .args .case in
+    λ l k h. rw (a, b, d, h .output, h .earlier, h .starting, h .online) (sym (rule5-is case l k))
 
 pub keeps5-spec : {M : Type 1} → statement M
 keeps5-spec =
