@@ -4,6 +4,7 @@
 mod days;
 mod library;
 mod plain;
+mod steps;
 
 use std::time::{Duration, Instant};
 
@@ -29,7 +30,10 @@ fn summary(mut times: Vec<Duration>) -> (f64, f64) {
 }
 
 fn main() {
-    println!("{:<34} {:>10} {:>10} {:>10} {:>10} {:>8} {:>8}", "day", "proved", "least", "plain", "least", "ratio", "least");
+    println!(
+        "{:<34} {:>10} {:>10} {:>10} {:>10} {:>8} {:>8} {:>10}",
+        "day", "proved", "least", "plain", "least", "ratio", "least", "row steps"
+    );
     for (name, case) in days::all() {
         let mut work = vec![0i64; library::WORK];
         let mut outputs = vec![0u16; case.hours];
@@ -46,7 +50,10 @@ fn main() {
             assert!(same, "{name}: the two disagree");
         }
         let ((p, pl), (q, ql)) = (summary(proved), summary(plain));
-        println!("{name:<34} {p:>10.1} {pl:>10.1} {q:>10.1} {ql:>10.1} {:>8.2} {:>8.2}", p / q, pl / ql);
+        let (ratio, least, steps) = (p / q, pl / ql, steps::count(&case, &outputs));
+        println!(
+            "{name:<34} {p:>10.1} {pl:>10.1} {q:>10.1} {ql:>10.1} {ratio:>8.2} {least:>8.2} {steps:>10}"
+        );
     }
     println!("microseconds; median and least of {ROUNDS} rounds taken in turn; ratio proved / plain");
 }

@@ -144,7 +144,11 @@ impl Unit<'_> {
                 queue.pop_front();
             }
             let best = queue[0];
-            let worth = if loaded[best] == NONE { NONE } else { loaded[best] + margin * (self.low + i) as i64 - hold };
+            let worth = if loaded[best] == NONE {
+                NONE
+            } else {
+                loaded[best] + margin * (self.low + i) as i64 - hold
+            };
             row.push((worth, (self.low + best) as u16));
         }
         row
@@ -159,29 +163,51 @@ enum State {
     Fall(usize),
 }
 
-/// The best list of an accepted case with its profit; none where no list keeps every rule.
-pub fn best(case: &Case) -> Option<(i64, Vec<u16>)> {
-    let (rises, falls, minup) = (case.rises, case.falls, usize::from(case.minup));
-    let unit = Unit {
+/// The unit of a case.
+fn unit_of(case: &Case) -> Unit<'_> {
+    let (rises, falls) = (case.rises, case.falls);
+    Unit {
         case,
         low: usize::from(case.minimum),
         cells: usize::from(case.capacity - case.minimum) + 1,
-        lock: (minup + 1).saturating_sub(rises + falls),
+        lock: (usize::from(case.minup) + 1).saturating_sub(rises + falls),
         rest: usize::from(case.mindown),
         rises,
         falls,
-    };
+    }
+}
+
+/// The state in which the day opens.
+fn opening(unit: &Unit) -> State {
+    let (initial, elapsed) = (usize::from(unit.case.initial), usize::from(unit.case.elapsed));
+    if initial == 0 {
+        return State::Off(elapsed.min(unit.rest));
+    }
+    State::Run(initial - unit.low, (usize::from(unit.case.minup) + 1).saturating_sub(elapsed + unit.falls))
+}
+
+/// The hours to go before a stop may begin, after a start and before each hour of a list.
+pub fn locks(case: &Case, list: &[u16]) -> (usize, Vec<usize>) {
+    let unit = unit_of(case);
+    let mut state = opening(&unit);
+    let mut locks = Vec::with_capacity(list.len());
+    for &p in list {
+        locks.push(if let State::Run(_, j) = state { j } else { 0 });
+        state = follow(&unit, state, usize::from(p));
+    }
+    (unit.lock, locks)
+}
+
+/// The best list of an accepted case with its profit; none where no list keeps every rule.
+pub fn best(case: &Case) -> Option<(i64, Vec<u16>)> {
+    let unit = unit_of(case);
     let mut layers = vec![unit.end()];
     for k in (0..case.hours).rev() {
         let layer = unit.step(k, layers.last().expect("the end"));
         layers.push(layer);
     }
     layers.reverse();
-    let mut state = if case.initial == 0 {
-        State::Off(usize::from(case.elapsed).min(unit.rest))
-    } else {
-        State::Run(usize::from(case.initial) - unit.low, (minup + 1).saturating_sub(usize::from(case.elapsed) + falls))
-    };
+    let mut state = opening(&unit);
     let profit = choice(&layers[0], &state).0;
     if profit == NONE {
         return None;

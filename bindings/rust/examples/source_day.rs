@@ -1,0 +1,49 @@
+//! Prints the source's day as a table: the best list of cases/source.case, hour by hour.
+
+use giqapsun::{best, check, read, Case, Refusal, Verdict};
+
+/// The stored case.
+const FILE: &[u8] = include_bytes!("../../../cases/source.case");
+
+/// Half-mills as dollars with four decimals.
+fn dollars(half_mills: i64) -> String {
+    let ten_thousandths = 5 * half_mills.unsigned_abs();
+    let sign = if half_mills < 0 { "-" } else { "" };
+    format!("{sign}{}.{:04}", ten_thousandths / 10_000, ten_thousandths % 10_000)
+}
+
+/// What an hour earns in half-mills: energy sold less F, A if on-line, B for a start, C for a stop.
+fn earned(case: &Case, hour: usize, before: u16, output: u16) -> i64 {
+    let margin = i64::from(case.prices[hour - 1]) - i64::from(case.variable);
+    let mut charges = 0;
+    if output > 0 {
+        charges += i64::from(case.fixed);
+    }
+    if before == 0 && output > 0 {
+        charges += i64::from(case.startup);
+    }
+    if before > 0 && output == 0 {
+        charges += i64::from(case.shutdown);
+    }
+    margin * (i64::from(before) + i64::from(output)) - 2 * charges
+}
+
+fn main() -> Result<(), Refusal> {
+    let case = read(FILE)?;
+    let plan = best(&case)?;
+    assert_eq!(check(&case, &plan.outputs)?, Verdict::Passes { profit: plan.profit });
+
+    println!("hour  price ($/MWh)  output (MW)  energy (MWh)  earnings ($)");
+    let (mut before, mut halves) = (case.initial, 0);
+    for (hour, &output) in (1..).zip(&plan.outputs) {
+        let mills = case.prices[hour - 1];
+        let price = format!("{}.{:03}", mills / 1000, mills % 1000);
+        let energy = u32::from(before) + u32::from(output);
+        let earnings = dollars(earned(&case, hour, before, output));
+        println!("{hour:4}  {price:>13}  {output:11}  {:10}.{}  {earnings:>12}", energy / 2, energy % 2 * 5);
+        halves += energy;
+        before = output;
+    }
+    println!("total{:>41}.{}  {:>12}", halves / 2, halves % 2 * 5, dollars(plan.profit));
+    Ok(())
+}

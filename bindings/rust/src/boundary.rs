@@ -1,0 +1,155 @@
+//! The C boundary as it stands in include/giqapsun.h: structs by value, slices as pointer and length.
+//! For callers that lend their own memory; the functions of the crate's root are safe.
+
+/// Entries that a record has room for in a trajectory.
+pub const STAGES: usize = 8;
+
+/// Hours that a record has room for.
+pub const HOURS: usize = 48;
+
+/// Signed 64-bit numbers that the search is lent to work in.
+pub const WORK: usize = 8192;
+
+/// Bytes of the longest file: pairs and unit, two trajectories, hours.
+pub const FILE_MOST: usize = 48 + 2 * STAGES * 2 + 3 * HOURS;
+
+/// Order of an hour: the unit may be on-line or off-line.
+pub const FREE: u8 = 0;
+
+/// Order of an hour: the unit must be on-line.
+pub const ON: u8 = 1;
+
+/// Order of an hour: the unit must be off-line.
+pub const OFF: u8 = 2;
+
+/// A case: the unit, its state before hour 1, and the hours of the day. Entries past a count are zero
+/// after reading and disregarded otherwise; `==` compares them too.
+#[repr(C)]
+#[derive(Clone, Copy, Debug, PartialEq, Eq)]
+pub struct Case {
+    /// Capacity in MW, at most 400.
+    pub capacity: u16,
+    /// Minimum output in MW.
+    pub minimum: u16,
+    /// Ramp-up limit RU in MW per hour.
+    pub rampup: u16,
+    /// Ramp-down limit RD in MW per hour.
+    pub rampdown: u16,
+    /// Minimum up time in hours.
+    pub minup: u16,
+    /// Minimum down time in hours.
+    pub mindown: u16,
+    /// F in mills per MWh.
+    pub variable: u32,
+    /// A in mills per on-line hour.
+    pub fixed: u32,
+    /// B in mills per start.
+    pub startup: u32,
+    /// C in mills per stop.
+    pub shutdown: u32,
+    /// p(0), the output before hour 1, in MW.
+    pub initial: u16,
+    /// h, the hours on-line (p(0) above 0) or off-line (p(0) 0) before hour 1.
+    pub elapsed: u16,
+    /// Start-up trajectory PU in MW.
+    pub rise: [u16; STAGES],
+    /// Shut-down trajectory PD in MW.
+    pub fall: [u16; STAGES],
+    /// Prices in mills per MWh; that of hour k at k - 1.
+    pub prices: [u16; HOURS],
+    /// Orders: [`FREE`], [`ON`] or [`OFF`]; that of hour k at k - 1.
+    pub orders: [u8; HOURS],
+    /// UD: how many entries of `rise` count, 1 to 8.
+    pub rises: usize,
+    /// DD: how many entries of `fall` count, 1 to 8.
+    pub falls: usize,
+    /// T: how many entries of `prices` and `orders` count, 1 to 48.
+    pub hours: usize,
+}
+
+impl Default for Case {
+    /// The record of zeros, which every call refuses with 2.
+    fn default() -> Case {
+        Case {
+            capacity: 0,
+            minimum: 0,
+            rampup: 0,
+            rampdown: 0,
+            minup: 0,
+            mindown: 0,
+            variable: 0,
+            fixed: 0,
+            startup: 0,
+            shutdown: 0,
+            initial: 0,
+            elapsed: 0,
+            rise: [0; STAGES],
+            fall: [0; STAGES],
+            prices: [0; HOURS],
+            orders: [0; HOURS],
+            rises: 0,
+            falls: 0,
+            hours: 0,
+        }
+    }
+}
+
+/// Number 0 and the case; or a refusal and the record of zeros.
+#[repr(C)]
+#[derive(Clone, Copy, Debug, PartialEq, Eq)]
+pub struct Reading {
+    /// 0, or the number of the refusal.
+    pub number: u32,
+    /// The case read.
+    pub c: Case,
+}
+
+/// Number 0 and how many bytes were written; or a refusal and 0.
+#[repr(C)]
+#[derive(Clone, Copy, Debug, PartialEq, Eq)]
+pub struct Written {
+    /// 0, or the number of the refusal.
+    pub number: u32,
+    /// Bytes of the file.
+    pub length: usize,
+}
+
+/// Number 0, rule 0 and the profit; number 0, the rule broken and its hour; or a refusal.
+#[repr(C)]
+#[derive(Clone, Copy, Debug, PartialEq, Eq)]
+pub struct Verdict {
+    /// 0, or the number of the refusal.
+    pub number: u32,
+    /// The earliest hour at which a rule is broken, from 0.
+    pub hour: u32,
+    /// 0, or the lowest rule broken at that hour.
+    pub rule: u32,
+    /// What a list that passes earns, in half-mills; otherwise 0.
+    pub profit: i64,
+}
+
+/// Number 0 and what the best list earns; or a refusal and 0.
+#[repr(C)]
+#[derive(Clone, Copy, Debug, PartialEq, Eq)]
+pub struct Plan {
+    /// 0, or the number of the refusal.
+    pub number: u32,
+    /// Profit in half-mills.
+    pub profit: i64,
+}
+
+// Every pointer is valid for its length, aligned and not null; lent slices do not overlap.
+extern "C" {
+    /// Reads the `n` bytes of a file; changes no lent memory.
+    pub fn giqapsun_read(file: *const u8, n: usize) -> Reading;
+
+    /// Writes a file into `n` lent bytes; changes the first `length` of them, on a refusal none.
+    pub fn giqapsun_write(c: Case, bytes: *mut u8, n: usize) -> Written;
+
+    /// Checks a list of `n` outputs; changes no lent memory.
+    pub fn giqapsun_check(c: Case, list: *const u16, n: usize) -> Verdict;
+
+    /// Finds the best list with `n` numbers to work in, at least [`WORK`], and `m` outputs, at least T.
+    /// Fills the first T outputs on number 0; zeroes the first [`WORK`] numbers on 0 and 11.
+    pub fn giqapsun_best(c: Case, work: *mut i64, n: usize, outputs: *mut u16, m: usize) -> Plan;
+}

@@ -1,0 +1,139 @@
+//! The day of one thermal power unit: case files are read and written, a list of hourly outputs is checked
+//! against the rules of the day, and the list that earns most is found. The library behind it is proved;
+//! this crate lends it memory and turns its answers into Rust's.
+//!
+//! Outputs are whole megawatts, prices and costs mills (thousandths of a dollar), profits half-mills (2,000
+//! to the dollar, exact). Hours are counted from 1; hour 0 is the one before the day.
+//!
+//! ```
+//! use giqapsun::{best, check, read, write, Case, Verdict};
+//!
+//! // A small unit on-line at 3 MW, and three hours at a price below its cost.
+//! let mut case = Case {
+//!     capacity: 4,
+//!     minimum: 2,
+//!     rampup: 1,
+//!     rampdown: 1,
+//!     minup: 1,
+//!     mindown: 1,
+//!     variable: 10,
+//!     fixed: 1,
+//!     startup: 3,
+//!     shutdown: 2,
+//!     initial: 3,
+//!     elapsed: 2,
+//!     rises: 2,
+//!     falls: 2,
+//!     hours: 3,
+//!     ..Case::default()
+//! };
+//! case.rise[..2].copy_from_slice(&[1, 2]);
+//! case.fall[..2].copy_from_slice(&[2, 1]);
+//! case.prices[..3].copy_from_slice(&[5, 5, 5]);
+//!
+//! let plan = best(&case)?;
+//! assert_eq!(plan.outputs, [2, 1, 0]);
+//! assert_eq!(plan.profit, -53);
+//! assert_eq!(check(&case, &plan.outputs)?, Verdict::Passes { profit: -53 });
+//! assert_eq!(check(&case, &[2, 2, 0])?, Verdict::Breaks { hour: 2, rule: 4 });
+//! assert_eq!(read(&write(&case)?)?, case);
+//! # Ok::<(), giqapsun::Refusal>(())
+//! ```
+
+#![deny(missing_docs)]
+
+pub mod boundary;
+mod refusal;
+
+pub use boundary::{Case, FILE_MOST, FREE, HOURS, OFF, ON, STAGES, WORK};
+pub use refusal::Refusal;
+
+/// What the check says of a list of T outputs.
+#[derive(Clone, Copy, Debug, PartialEq, Eq)]
+pub enum Verdict {
+    /// The list keeps every rule.
+    Passes {
+        /// What it earns, in half-mills.
+        profit: i64,
+    },
+    /// The list breaks a rule.
+    Breaks {
+        /// The earliest hour at which a rule is broken; hour 0 is the one before the day.
+        hour: u32,
+        /// The lowest rule broken there: constraints 1 to 12, minimum times 21 and 22, hour orders 23.
+        rule: u32,
+    },
+}
+
+/// The best list of a day.
+#[derive(Clone, Debug, PartialEq, Eq)]
+pub struct Plan {
+    /// The output at the end of each hour, in MW; that of hour k at k - 1.
+    pub outputs: Vec<u16>,
+    /// What it earns, in half-mills.
+    pub profit: i64,
+}
+
+/// Reads a case file.
+///
+/// # Errors
+///
+/// Refusals 1 to 8.
+pub fn read(file: &[u8]) -> Result<Case, Refusal> {
+    // SAFETY: pointer and length are those of one slice, which is only read.
+    let reading = unsafe { boundary::giqapsun_read(file.as_ptr(), file.len()) };
+    accepted(reading.number, reading.c)
+}
+
+/// Writes the file of a case.
+///
+/// # Errors
+///
+/// Refusals 2 to 8.
+pub fn write(case: &Case) -> Result<Vec<u8>, Refusal> {
+    let mut bytes = vec![0; FILE_MOST];
+    // SAFETY: pointer and length are those of one slice, lent for the call alone.
+    let written = unsafe { boundary::giqapsun_write(*case, bytes.as_mut_ptr(), bytes.len()) };
+    bytes.truncate(written.length);
+    accepted(written.number, bytes)
+}
+
+/// Checks a list of outputs, one for each hour; that of hour k at k - 1.
+///
+/// # Errors
+///
+/// Refusals 2 to 8 of the case, and 9 where the list is not of T outputs.
+pub fn check(case: &Case, list: &[u16]) -> Result<Verdict, Refusal> {
+    // SAFETY: pointer and length are those of one slice, which is only read.
+    let verdict = unsafe { boundary::giqapsun_check(*case, list.as_ptr(), list.len()) };
+    let answer = match verdict.rule {
+        0 => Verdict::Passes { profit: verdict.profit },
+        rule => Verdict::Breaks { hour: verdict.hour, rule },
+    };
+    accepted(verdict.number, answer)
+}
+
+/// Finds the list that keeps every rule and earns most; among equal earners the one that is lower at the
+/// first hour where two differ.
+///
+/// # Errors
+///
+/// Refusals 2 to 8 of the case, and 11 where no list keeps every rule.
+pub fn best(case: &Case) -> Result<Plan, Refusal> {
+    let mut work = vec![0; WORK];
+    let mut outputs = vec![0; HOURS];
+    // SAFETY: pointers and lengths are those of two slices, lent for the call alone.
+    let plan = unsafe {
+        boundary::giqapsun_best(*case, work.as_mut_ptr(), work.len(), outputs.as_mut_ptr(), outputs.len())
+    };
+    outputs.truncate(case.hours);
+    accepted(plan.number, Plan { outputs, profit: plan.profit })
+}
+
+/// The answer beside number 0, or the refusal.
+fn accepted<A>(number: u32, answer: A) -> Result<A, Refusal> {
+    match Refusal::from_number(number) {
+        None => Ok(answer),
+        Some(refusal) => Err(refusal),
+    }
+}

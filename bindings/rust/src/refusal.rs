@@ -1,0 +1,111 @@
+//! Refusals 1 to 11.
+
+use std::error::Error;
+use std::fmt;
+
+/// Why a call was refused.
+#[derive(Clone, Copy, Debug, PartialEq, Eq, Hash)]
+#[non_exhaustive]
+pub enum Refusal {
+    /// 1: the file's pairs of offset and length.
+    Pairs,
+    /// 2: a section's length, or a count of a record.
+    Counts,
+    /// 3: minimum output and capacity.
+    Capacity,
+    /// 4: ramp limits and minimum times.
+    RampsAndTimes,
+    /// 5: costs.
+    Costs,
+    /// 6: trajectories.
+    Trajectories,
+    /// 7: output and hours in state before hour 1.
+    Opening,
+    /// 8: hour orders.
+    Orders,
+    /// 9: length of a checked list.
+    ListLength,
+    /// 10: lent memory.
+    Memory,
+    /// 11: no list keeps every rule.
+    NoSchedule,
+    /// A number that this crate does not know.
+    Unknown(u32),
+}
+
+impl Refusal {
+    /// The refusals 1 to 11, in that order.
+    pub const ALL: [Refusal; 11] = [
+        Refusal::Pairs,
+        Refusal::Counts,
+        Refusal::Capacity,
+        Refusal::RampsAndTimes,
+        Refusal::Costs,
+        Refusal::Trajectories,
+        Refusal::Opening,
+        Refusal::Orders,
+        Refusal::ListLength,
+        Refusal::Memory,
+        Refusal::NoSchedule,
+    ];
+
+    /// The refusal with this number; none for 0.
+    pub fn from_number(number: u32) -> Option<Refusal> {
+        let place = number.checked_sub(1)?;
+        Some(Refusal::ALL.get(place as usize).copied().unwrap_or(Refusal::Unknown(number)))
+    }
+
+    /// The number in the refusal list.
+    pub fn number(self) -> u32 {
+        match self {
+            Refusal::Pairs => 1,
+            Refusal::Counts => 2,
+            Refusal::Capacity => 3,
+            Refusal::RampsAndTimes => 4,
+            Refusal::Costs => 5,
+            Refusal::Trajectories => 6,
+            Refusal::Opening => 7,
+            Refusal::Orders => 8,
+            Refusal::ListLength => 9,
+            Refusal::Memory => 10,
+            Refusal::NoSchedule => 11,
+            Refusal::Unknown(number) => number,
+        }
+    }
+
+    /// The condition in the refusal list.
+    pub fn text(self) -> &'static str {
+        match self {
+            Refusal::Pairs => "file under 16 bytes, or pairs not as laid down",
+            Refusal::Counts => "a section length, or a count in a record, not as laid down",
+            Refusal::Capacity => "minimum output 0 or above capacity, or capacity above 400",
+            Refusal::RampsAndTimes => "RU or RD outside 1 to 400, or a minimum time outside 1 to 8",
+            Refusal::Costs => "F above 1,000,000, or A, B or C above 100,000,000",
+            Refusal::Trajectories => {
+                "PU not strictly rising from 1 or more to the minimum output, \
+                 or PD not strictly falling from the minimum output to 1 or more"
+            }
+            Refusal::Opening => {
+                "h outside 1 to 10,000; p(0) neither 0 nor from minimum to capacity; \
+                 p(0) above 0 with h below UD"
+            }
+            Refusal::Orders => "an order byte above 2",
+            Refusal::ListLength => "checked list not of T outputs",
+            Refusal::Memory => {
+                "lent memory short: 8,192 signed 64-bit numbers to work in, T outputs, \
+                 or the written file's bytes"
+            }
+            Refusal::NoSchedule => "best list asked for, and no list keeps every rule",
+            Refusal::Unknown(_) => "a number that is not in the refusal list",
+        }
+    }
+}
+
+impl fmt::Display for Refusal {
+    /// Number and condition.
+    fn fmt(&self, f: &mut fmt::Formatter<'_>) -> fmt::Result {
+        write!(f, "refused {}: {}", self.number(), self.text())
+    }
+}
+
+impl Error for Refusal {}

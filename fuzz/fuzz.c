@@ -1,0 +1,278 @@
+/*
+ * Fuzz target over the C boundary. Each input is tried in three ways:
+ *   as a file, up to the end that its pairs name, and the rest as outputs of a list to check;
+ *   as a record, byte for byte, with counts and numbers of any size;
+ *   as a record brought within the limits, so that every input is also searched.
+ * Whatever the answers have to agree in is tested; any difference aborts.
+ */
+#include "giqapsun.h"
+#include <stdio.h>
+#include <stdlib.h>
+#include <string.h>
+
+/* Elements before and after the lent ones, which no call may change. */
+#define MARGIN 16
+
+#define HOLDS(fact)                                                   \
+    do {                                                              \
+        if (!(fact)) {                                                \
+            fprintf(stderr, "line %d: not so: %s\n", __LINE__, #fact); \
+            abort();                                                  \
+        }                                                             \
+    } while (0)
+
+/* Noise that depends on the input alone (xorshift). */
+static uint64_t state;
+
+static uint64_t noise(void)
+{
+    state ^= state << 13;
+    state ^= state >> 7;
+    state ^= state << 17;
+    return state;
+}
+
+/* Bytes of an input, taken from the front; noise once they are used up. */
+struct bytes {
+    const uint8_t *at;
+    size_t left;
+};
+
+static uint8_t take8(struct bytes *bytes)
+{
+    if (bytes->left == 0)
+        return (uint8_t)(noise() >> 32);
+    bytes->left--;
+    return *bytes->at++;
+}
+
+static uint16_t take16(struct bytes *bytes)
+{
+    uint16_t low = take8(bytes);
+    return (uint16_t)(low + 256 * take8(bytes));
+}
+
+/* A number from low to high. */
+static uint16_t within(struct bytes *bytes, unsigned low, unsigned high)
+{
+    return (uint16_t)(low + take16(bytes) % (high - low + 1));
+}
+
+/* The lent memory, and what it held before the call. */
+static int64_t work[MARGIN + GIQAPSUN_WORK + MARGIN], work_before[MARGIN + GIQAPSUN_WORK + MARGIN];
+static uint16_t outputs[MARGIN + GIQAPSUN_HOURS + MARGIN], outputs_before[MARGIN + GIQAPSUN_HOURS + MARGIN];
+static uint8_t file[MARGIN + GIQAPSUN_FILE_MOST + MARGIN], file_before[MARGIN + GIQAPSUN_FILE_MOST + MARGIN];
+
+/* giqapsun_write into so many bytes, with the memory filled and compared. */
+static struct giqapsun_written written_in(struct giqapsun_case c, size_t n)
+{
+    for (size_t i = 0; i < sizeof file; i++)
+        file[i] = (uint8_t)noise();
+    memcpy(file_before, file, sizeof file);
+    struct giqapsun_written w = giqapsun_write(c, file + MARGIN, n);
+    HOLDS(w.length <= n);
+    HOLDS(w.number == 0 || w.length == 0);
+    HOLDS(memcmp(file, file_before, MARGIN) == 0);
+    size_t end = MARGIN + w.length;
+    HOLDS(memcmp(file + end, file_before + end, sizeof file - end) == 0);
+    return w;
+}
+
+/* giqapsun_best with so many numbers and outputs, with the memory filled and compared. */
+static struct giqapsun_plan best_in(struct giqapsun_case c, size_t n, size_t m)
+{
+    for (size_t i = 0; i < sizeof work / sizeof *work; i++)
+        work[i] = (int64_t)noise();
+    for (size_t i = 0; i < sizeof outputs / sizeof *outputs; i++)
+        outputs[i] = (uint16_t)noise();
+    memcpy(work_before, work, sizeof work);
+    memcpy(outputs_before, outputs, sizeof outputs);
+    struct giqapsun_plan plan = giqapsun_best(c, work + MARGIN, n, outputs + MARGIN, m);
+    if (plan.number == 0 || plan.number == 11)
+        memset(work_before + MARGIN, 0, GIQAPSUN_WORK * sizeof *work);
+    HOLDS(memcmp(work, work_before, sizeof work) == 0);
+    size_t filled = plan.number == 0 ? c.hours : 0;
+    HOLDS(filled <= m);
+    memcpy(outputs_before + MARGIN, outputs + MARGIN, filled * sizeof *outputs);
+    HOLDS(memcmp(outputs, outputs_before, sizeof outputs) == 0);
+    HOLDS(plan.number == 0 || plan.profit == 0);
+    return plan;
+}
+
+/* giqapsun_check, with the list compared and the answer's form tested. */
+static struct giqapsun_verdict checked(struct giqapsun_case c, const uint16_t *list, size_t n)
+{
+    uint16_t before[GIQAPSUN_HOURS + 1];
+    memcpy(before, list, n * sizeof *list);
+    struct giqapsun_verdict verdict = giqapsun_check(c, list, n);
+    HOLDS(memcmp(before, list, n * sizeof *list) == 0);
+    if (verdict.number != 0)
+        HOLDS(verdict.hour == 0 && verdict.rule == 0 && verdict.profit == 0);
+    else if (verdict.rule != 0)
+        HOLDS(verdict.hour <= c.hours && verdict.profit == 0);
+    else
+        HOLDS(verdict.hour == 0);
+    return verdict;
+}
+
+/* A list that passes is not better than the best one. */
+static void not_better(struct giqapsun_case c, const uint16_t *list, struct giqapsun_plan plan,
+                       const uint16_t *best)
+{
+    struct giqapsun_verdict verdict = checked(c, list, c.hours);
+    HOLDS(verdict.number == 0);
+    if (verdict.rule != 0)
+        return;
+    HOLDS(plan.number == 0);
+    HOLDS(verdict.profit <= plan.profit);
+    if (verdict.profit < plan.profit)
+        return;
+    for (size_t k = 0; k < c.hours; k++) {
+        if (list[k] != best[k]) {
+            HOLDS(list[k] > best[k]);
+            return;
+        }
+    }
+}
+
+/* An accepted case and the bytes of its file. */
+static void try_accepted(struct giqapsun_case c, const uint8_t *bytes, size_t n, struct bytes *rest)
+{
+    struct giqapsun_written w = written_in(c, GIQAPSUN_FILE_MOST);
+    HOLDS(w.number == 0 && w.length == n && memcmp(file + MARGIN, bytes, n) == 0);
+    w = written_in(c, n);
+    HOLDS(w.number == 0 && w.length == n);
+    HOLDS(written_in(c, n - 1).number == 10);
+    HOLDS(best_in(c, GIQAPSUN_WORK - 1, GIQAPSUN_HOURS).number == 10);
+    HOLDS(best_in(c, GIQAPSUN_WORK, c.hours - 1).number == 10);
+
+    struct giqapsun_plan plan = best_in(c, GIQAPSUN_WORK, c.hours);
+    HOLDS(plan.number == 0 || plan.number == 11);
+    uint16_t best[GIQAPSUN_HOURS] = {0}, list[GIQAPSUN_HOURS + 1] = {0};
+    if (plan.number == 0) {
+        memcpy(best, outputs + MARGIN, c.hours * sizeof *best);
+        struct giqapsun_verdict verdict = checked(c, best, c.hours);
+        HOLDS(verdict.number == 0 && verdict.rule == 0 && verdict.profit == plan.profit);
+        struct giqapsun_plan again = best_in(c, GIQAPSUN_WORK + MARGIN, GIQAPSUN_HOURS);
+        HOLDS(again.number == 0 && again.profit == plan.profit);
+        HOLDS(memcmp(best, outputs + MARGIN, c.hours * sizeof *best) == 0);
+    }
+
+    /* lists that differ from the best one in one hour and in two, and a list of the input's own numbers */
+    for (int turn = 0; turn < 8; turn++) {
+        memcpy(list, best, sizeof best);
+        list[within(rest, 1, (unsigned)c.hours) - 1] = within(rest, 0, c.capacity);
+        not_better(c, list, plan, best);
+        list[within(rest, 1, (unsigned)c.hours) - 1] = within(rest, 0, c.capacity);
+        not_better(c, list, plan, best);
+    }
+    for (size_t k = 0; k <= c.hours; k++)
+        list[k] = take16(rest);
+    not_better(c, list, plan, best);
+    HOLDS(checked(c, list, c.hours - 1).number == 9);
+    HOLDS(checked(c, list, c.hours + 1).number == 9);
+}
+
+/* The bytes of a file. */
+static void try_file(const uint8_t *bytes, size_t n, struct bytes *rest)
+{
+    static const struct giqapsun_case zero;
+    struct giqapsun_reading reading = giqapsun_read(bytes, n);
+    HOLDS(reading.number <= 8);
+    if (reading.number != 0)
+        HOLDS(memcmp(&reading.c, &zero, sizeof zero) == 0);
+    else
+        try_accepted(reading.c, bytes, n, rest);
+}
+
+/* A record: all calls refuse it alike, or its file is read back as the record. */
+static void try_record(struct giqapsun_case c, struct bytes *rest)
+{
+    uint16_t list[GIQAPSUN_HOURS] = {0};
+    struct giqapsun_written w = written_in(c, GIQAPSUN_FILE_MOST);
+    if (w.number != 0) {
+        HOLDS(w.number >= 2 && w.number <= 8);
+        HOLDS(checked(c, list, GIQAPSUN_HOURS).number == w.number);
+        HOLDS(best_in(c, GIQAPSUN_WORK, GIQAPSUN_HOURS).number == w.number);
+        return;
+    }
+    uint8_t bytes[GIQAPSUN_FILE_MOST];
+    memcpy(bytes, file + MARGIN, w.length);
+    struct giqapsun_reading reading = giqapsun_read(bytes, w.length);
+    HOLDS(reading.number == 0);
+    HOLDS(reading.c.rises == c.rises && reading.c.falls == c.falls && reading.c.hours == c.hours);
+    HOLDS(memcmp(reading.c.prices, c.prices, c.hours * sizeof *c.prices) == 0);
+    HOLDS(memcmp(reading.c.orders, c.orders, c.hours) == 0);
+    HOLDS(memcmp(reading.c.rise, c.rise, c.rises * sizeof *c.rise) == 0);
+    HOLDS(memcmp(reading.c.fall, c.fall, c.falls * sizeof *c.fall) == 0);
+    HOLDS(memcmp(&reading.c, &c, offsetof(struct giqapsun_case, rise)) == 0);
+    try_accepted(reading.c, bytes, w.length, rest);
+}
+
+/* A record within the limits. */
+static struct giqapsun_case within_limits(struct bytes *bytes)
+{
+    struct giqapsun_case c;
+    memset(&c, 0xa5, sizeof c);
+    c.capacity = within(bytes, 1, take8(bytes) % 4 == 0 ? 400 : 12);
+    c.minimum = within(bytes, 1, c.capacity);
+    c.rampup = within(bytes, 1, take8(bytes) % 2 == 0 ? 400 : 4);
+    c.rampdown = within(bytes, 1, take8(bytes) % 2 == 0 ? 400 : 4);
+    c.minup = within(bytes, 1, 8);
+    c.mindown = within(bytes, 1, 8);
+    c.variable = take8(bytes) % 2 == 0 ? within(bytes, 0, 100) : 15u * take16(bytes);
+    c.fixed = take8(bytes) % 2 == 0 ? within(bytes, 0, 100) : 1500u * take16(bytes);
+    c.startup = take8(bytes) % 2 == 0 ? within(bytes, 0, 1000) : 1500u * take16(bytes);
+    c.shutdown = take8(bytes) % 2 == 0 ? within(bytes, 0, 1000) : 1500u * take16(bytes);
+    unsigned most = c.minimum < GIQAPSUN_STAGES ? c.minimum : GIQAPSUN_STAGES;
+    c.rises = within(bytes, 1, most);
+    c.falls = within(bytes, 1, most);
+    /* from the minimum output down, with room left for the stages that follow */
+    c.rise[c.rises - 1] = c.minimum;
+    for (size_t i = c.rises - 1; i > 0; i--)
+        c.rise[i - 1] = within(bytes, (unsigned)i, c.rise[i] - 1u);
+    c.fall[0] = c.minimum;
+    for (size_t i = 1; i < c.falls; i++)
+        c.fall[i] = within(bytes, (unsigned)(c.falls - i), c.fall[i - 1] - 1u);
+    c.initial = take8(bytes) % 2 == 0 ? 0 : within(bytes, c.minimum, c.capacity);
+    c.elapsed = within(bytes, c.initial == 0 ? 1 : (unsigned)c.rises, take8(bytes) % 4 == 0 ? 10000 : 12);
+    c.hours = take8(bytes) % 4 == 0 ? GIQAPSUN_HOURS : within(bytes, 1, GIQAPSUN_HOURS);
+    int orders = take8(bytes) % 2 == 0;
+    unsigned highest = take8(bytes) % 2 == 0 ? 65535 : 200;
+    for (size_t k = 0; k < c.hours; k++) {
+        c.prices[k] = within(bytes, 0, highest);
+        uint16_t order = orders ? take8(bytes) % 16 : 0;
+        c.orders[k] = (uint8_t)(order <= GIQAPSUN_OFF ? order : GIQAPSUN_FREE);
+    }
+    return c;
+}
+
+int LLVMFuzzerTestOneInput(const uint8_t *data, size_t size)
+{
+    state = 0x9e3779b97f4a7c15u;
+    for (size_t i = 0; i < size; i++)
+        state = (state ^ data[i]) * 0x100000001b3u;
+    state |= 1;
+
+    size_t end = size;
+    if (size >= 16) {
+        size_t named = (size_t)data[12] + 256u * data[13] + data[14] + 256u * data[15];
+        end = named < size ? named : size;
+    }
+    struct bytes rest = {data + end, size - end};
+    try_file(data, end, &rest);
+    if (end < size)
+        HOLDS(giqapsun_read(data, size).number == 1);
+
+    struct giqapsun_case c;
+    memset(&c, 0, sizeof c);
+    memcpy(&c, data, size < sizeof c ? size : sizeof c);
+    rest = (struct bytes){data, size};
+    try_record(c, &rest);
+
+    rest = (struct bytes){data, size};
+    c = within_limits(&rest);
+    HOLDS(written_in(c, GIQAPSUN_FILE_MOST).number == 0);
+    try_record(c, &rest);
+    return 0;
+}

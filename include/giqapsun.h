@@ -1,0 +1,177 @@
+/*
+ * Giqapsun: the day of one thermal power unit.
+ *
+ * Four calls: read a case file, write a case file, check a list of hourly outputs, find the list that
+ * earns most. Structs go by value; a slice is a pointer and then its length in elements, not bytes.
+ * The calls allocate nothing and keep nothing from one call to the next.
+ *
+ * Units
+ *
+ *   output    megawatts (MW), whole; p(k) is the output at the end of hour k, p(0) the one before hour 1
+ *   hour      1 to T; hour 0 is the one before the day
+ *   price, F  mills (thousandths of a dollar) per MWh; A mills per on-line hour, B per start, C per stop
+ *   profit    half-mills: 2,000 to the dollar, exact, may be negative
+ *
+ * Refusals: the `number` of an answer. 0 is no refusal. The conditions are tested from the top, and the
+ * first that applies is given. giqapsun_read tests 1 to 8, giqapsun_write 2 to 8 and 10, giqapsun_check
+ * 2 to 9, giqapsun_best 2 to 8, 10 and 11.
+ *
+ *   1   file under 16 bytes, or pairs not as laid down
+ *   2   a section length, or a count in a record, not as laid down
+ *   3   minimum output 0 or above capacity, or capacity above 400
+ *   4   RU or RD outside 1 to 400, or a minimum time outside 1 to 8
+ *   5   F above 1,000,000, or A, B or C above 100,000,000
+ *   6   PU not strictly rising from 1 or more to the minimum output, or PD not strictly falling from the
+ *       minimum output to 1 or more
+ *   7   h outside 1 to 10,000; p(0) neither 0 nor from minimum to capacity; p(0) above 0 with h below UD
+ *   8   an order byte above 2
+ *   9   checked list not of T outputs
+ *   10  lent memory short: 8,192 signed 64-bit numbers to work in, T outputs, or the written file's bytes
+ *   11  best list asked for, and no list keeps every rule
+ *
+ * Rules that a list may break: the `rule` of a verdict.
+ *
+ *   1, 2      lower limit of the output, with the start-up and with the shut-down trajectory
+ *   3, 4      upper limit of the output, with the start-up and with the shut-down trajectory
+ *   5, 6      ramp-up limit RU, ramp-down limit RD
+ *   7         starts and stops against the hours on-line
+ *   8, 9      on-line through a start-up, through a shut-down
+ *   10 to 12  a start-up and a shut-down meet in the hour at minimum output or not at all
+ *   21, 22    minimum up time, minimum down time
+ *   23        hour order
+ *
+ * Lent memory: every pointer is valid for its length, aligned for its type and not null, also where the
+ * length is 0; lent slices do not overlap. Each call below says what it changes; nothing else is changed.
+ *
+ * Example: a case on standard input, its best day on standard output.
+ *
+ *     #include <stdio.h>
+ *     #include "giqapsun.h"
+ *
+ *     int main(void)
+ *     {
+ *         static uint8_t file[GIQAPSUN_FILE_MOST + 1];   // a byte more: a longer file is refused
+ *         static int64_t work[GIQAPSUN_WORK];
+ *         uint16_t outputs[GIQAPSUN_HOURS];
+ *
+ *         size_t length = fread(file, 1, sizeof file, stdin);
+ *         struct giqapsun_reading day = giqapsun_read(file, length);
+ *         if (day.number != 0) {
+ *             printf("refused %u\n", (unsigned)day.number);
+ *             return 1;
+ *         }
+ *         struct giqapsun_plan plan = giqapsun_best(day.c, work, GIQAPSUN_WORK, outputs, GIQAPSUN_HOURS);
+ *         if (plan.number != 0) {
+ *             printf("refused %u\n", (unsigned)plan.number);
+ *             return 1;
+ *         }
+ *         printf("profit %lld half-mills\n", (long long)plan.profit);
+ *         for (size_t k = 1; k <= day.c.hours; k++)
+ *             printf("hour %u: %u MW\n", (unsigned)k, (unsigned)outputs[k - 1]);
+ *         return 0;
+ *     }
+ */
+#ifndef GIQAPSUN_H
+#define GIQAPSUN_H
+
+#include <stddef.h>
+#include <stdint.h>
+
+#ifdef __cplusplus
+extern "C" {
+#endif
+
+/* Entries that a record has room for: outputs of a trajectory, hours of a day. */
+#define GIQAPSUN_STAGES 8
+#define GIQAPSUN_HOURS 48
+
+/* Signed 64-bit numbers that giqapsun_best is lent to work in. */
+#define GIQAPSUN_WORK 8192
+
+/* Bytes of the longest file: pairs and unit, two trajectories, hours. */
+#define GIQAPSUN_FILE_MOST (48 + 2 * GIQAPSUN_STAGES * 2 + 3 * GIQAPSUN_HOURS)
+
+/* Orders of an hour. */
+#define GIQAPSUN_FREE 0
+#define GIQAPSUN_ON 1
+#define GIQAPSUN_OFF 2
+
+/* A case. Entries past a count are zero after reading and disregarded otherwise. */
+struct giqapsun_case {
+    uint16_t capacity; /* MW, at most 400 */
+    uint16_t minimum;  /* minimum output, MW */
+    uint16_t rampup;   /* RU, MW per hour */
+    uint16_t rampdown; /* RD, MW per hour */
+    uint16_t minup;    /* minimum up time, hours */
+    uint16_t mindown;  /* minimum down time, hours */
+    uint32_t variable; /* F, mills per MWh */
+    uint32_t fixed;    /* A, mills per on-line hour */
+    uint32_t startup;  /* B, mills per start */
+    uint32_t shutdown; /* C, mills per stop */
+    uint16_t initial;  /* p(0), MW */
+    uint16_t elapsed;  /* h: hours on-line (p(0) above 0) or off-line (p(0) 0) before hour 1 */
+    uint16_t rise[GIQAPSUN_STAGES];  /* PU, MW */
+    uint16_t fall[GIQAPSUN_STAGES];  /* PD, MW */
+    uint16_t prices[GIQAPSUN_HOURS]; /* prices[k - 1] is that of hour k, mills per MWh */
+    uint8_t orders[GIQAPSUN_HOURS];  /* orders[k - 1] is that of hour k: free, on-line or off-line */
+    size_t rises; /* UD: entries of rise, 1 to 8 */
+    size_t falls; /* DD: entries of fall, 1 to 8 */
+    size_t hours; /* T: entries of prices and of orders, 1 to 48 */
+};
+
+/* Number 0 and the case; or a refusal and a record of zeros. */
+struct giqapsun_reading {
+    uint32_t number;
+    struct giqapsun_case c;
+};
+
+/* Number 0 and how many bytes were written; or a refusal and 0. */
+struct giqapsun_written {
+    uint32_t number;
+    size_t length;
+};
+
+/*
+ * Number 0 and rule 0: the list passes and earns `profit`. Number 0 and another rule: the list breaks
+ * `rule` at `hour`, the earliest hour (0 included) and there the lowest rule; profit 0. Or a refusal, and
+ * hour, rule and profit 0.
+ */
+struct giqapsun_verdict {
+    uint32_t number;
+    uint32_t hour;
+    uint32_t rule;
+    int64_t profit;
+};
+
+/* Number 0 and what the best list earns; or a refusal and profit 0. */
+struct giqapsun_plan {
+    uint32_t number;
+    int64_t profit;
+};
+
+/* Reads the n bytes of a case file. Changes no lent memory. */
+struct giqapsun_reading giqapsun_read(const uint8_t *file, size_t n);
+
+/*
+ * Writes the file of a case into n lent bytes; GIQAPSUN_FILE_MOST are enough for any case. Changes the
+ * first `length` bytes; on a refusal, none.
+ */
+struct giqapsun_written giqapsun_write(struct giqapsun_case c, uint8_t *bytes, size_t n);
+
+/* Checks a list of n outputs; list[k - 1] is p(k), any 16-bit number. Changes no lent memory. */
+struct giqapsun_verdict giqapsun_check(struct giqapsun_case c, const uint16_t *list, size_t n);
+
+/*
+ * Finds the list that keeps every rule and earns most; among equal earners the one that is lower at the
+ * first hour where two differ. n is at least GIQAPSUN_WORK, m at least T; what the memory holds does not
+ * matter. On number 0 the first T outputs are filled, outputs[k - 1] with p(k). On numbers 0 and 11 the
+ * first GIQAPSUN_WORK numbers of work are set to 0. On any other number nothing is changed.
+ */
+struct giqapsun_plan giqapsun_best(struct giqapsun_case c, int64_t *work, size_t n, uint16_t *outputs,
+                                   size_t m);
+
+#ifdef __cplusplus
+}
+#endif
+
+#endif

@@ -1,0 +1,29 @@
+"""Prints what layout.c prints, from the structures of the Python module."""
+
+import ctypes
+
+import giqapsun
+
+
+def sign(kind):
+    """The sign of a field, as layout.c prints it."""
+    number = getattr(kind, "_type_", kind)
+    number = number if isinstance(number, type) else kind
+    if issubclass(number, ctypes.Structure):
+        return ""
+    return ", signed" if number(-1).value < 0 else ", unsigned"
+
+
+def main():
+    """Every constant, structure and field."""
+    for name in ("STAGES", "HOURS", "WORK", "FILE_MOST", "FREE", "ON", "OFF"):
+        print(name, getattr(giqapsun, name))
+    for name in ("case", "reading", "written", "verdict", "plan"):
+        kind = getattr(giqapsun, "_" + name.capitalize())
+        print(f"{name}: size {ctypes.sizeof(kind)}")
+        for field, number in kind._fields_:
+            place = getattr(kind, field)
+            print(f"{name}.{field}: offset {place.offset}, size {place.size}{sign(number)}")
+
+
+main()

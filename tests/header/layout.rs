@@ -1,0 +1,58 @@
+//! Prints what layout.c prints, from the structs of the Rust crate. A field that is left out here is an
+//! error of the compiler.
+
+#[allow(dead_code)]
+#[path = "../../bindings/rust/src/boundary.rs"]
+mod boundary;
+
+use boundary::{Case, Plan, Reading, Verdict, Written};
+use std::mem::{offset_of, size_of, size_of_val};
+
+/// The sign of a field, as layout.c prints it.
+trait Sign {
+    const SIGN: &'static str;
+}
+
+macro_rules! signs {
+    ($($kind:ty: $sign:literal)*) => { $(impl Sign for $kind { const SIGN: &'static str = $sign; })* };
+}
+
+signs! { u8: ", unsigned" u16: ", unsigned" u32: ", unsigned" usize: ", unsigned" i64: ", signed" Case: "" }
+
+impl<N: Sign, const COUNT: usize> Sign for [N; COUNT] {
+    const SIGN: &'static str = N::SIGN;
+}
+
+/// The sign of the field that a reference leads to.
+fn sign<N: Sign>(_: &N) -> &'static str {
+    N::SIGN
+}
+
+/// Prints the size of a struct and the offset, size and sign of each of its fields.
+macro_rules! layout {
+    ($name:literal, $kind:ident, $value:expr, $($field:ident)*) => {
+        let $kind { $($field),* } = $value;
+        println!("{}: size {}", $name, size_of::<$kind>());
+        $(
+            let (offset, size) = (offset_of!($kind, $field), size_of_val(&$field));
+            println!("{}.{}: offset {offset}, size {size}{}", $name, stringify!($field), sign(&$field));
+        )*
+    };
+}
+
+fn main() {
+    println!("STAGES {}", boundary::STAGES);
+    println!("HOURS {}", boundary::HOURS);
+    println!("WORK {}", boundary::WORK);
+    println!("FILE_MOST {}", boundary::FILE_MOST);
+    println!("FREE {}", boundary::FREE);
+    println!("ON {}", boundary::ON);
+    println!("OFF {}", boundary::OFF);
+    let case = Case::default();
+    layout!("case", Case, case, capacity minimum rampup rampdown minup mindown variable fixed startup
+        shutdown initial elapsed rise fall prices orders rises falls hours);
+    layout!("reading", Reading, Reading { number: 0, c: case }, number c);
+    layout!("written", Written, Written { number: 0, length: 0 }, number length);
+    layout!("verdict", Verdict, Verdict { number: 0, hour: 0, rule: 0, profit: 0 }, number hour rule profit);
+    layout!("plan", Plan, Plan { number: 0, profit: 0 }, number profit);
+}

@@ -1,0 +1,39 @@
+"""Amounts of money: mills (thousandths of a dollar) and half-mills, whole numbers throughout.
+
+Dollars are read and printed as decimal digits; no amount is ever rounded.
+"""
+
+import re
+
+_DOLLARS = re.compile(r"([+-]?)([0-9]{1,15})(?:\.([0-9]{1,3}))?")
+
+
+def mills_of_dollars(digits):
+    """The mills of an amount in dollars with up to three decimals; None if it is not written so."""
+    match = _DOLLARS.fullmatch(digits)
+    if match is None:
+        return None
+    sign, whole, decimals = match.groups()
+    mills = 1000 * int(whole) + int((decimals or "").ljust(3, "0"))
+    return -mills if sign == "-" else mills
+
+
+def dollars_of_mills(mills):
+    """An amount in mills as dollars with three decimals, as 1,234.567."""
+    return _decimal(mills, 1000, 3)
+
+
+def dollars_of_half_mills(half_mills):
+    """An amount in half-mills as dollars with four decimals, as -0.0265."""
+    return _decimal(5 * half_mills, 10000, 4)
+
+
+def megawatt_hours(halves):
+    """Energy in half-megawatt-hours as MWh with one decimal."""
+    return _decimal(5 * halves, 10, 1)
+
+
+def _decimal(number, unit, decimals):
+    sign = "-" if number < 0 else ""
+    whole, rest = divmod(abs(number), unit)
+    return f"{sign}{whole:,}.{rest:0{decimals}d}"
