@@ -47,13 +47,15 @@ module _ (c : Case) (e : refusalOf c ≡ 0) (fit : Fit (unitOf c)) (work : List 
   unfolding planned
   find-none t = go (bestOf c) refl
     where
-      go : (r : Option (List ℕ)) → bestOf c ≡ r → (Refused 11 ≡ planned c work ys r .answer) × (zs ≡ planned c work ys r .outputs)
+      go : (r : Option (List ℕ)) → bestOf c ≡ r → (Refused 11 ≡ planned c work ys r .answer) ×
+          (zs ≡ planned c work ys r .outputs)
       go none d = (refl, found .list ∙ ap (maybe ys _) (worth-none c e d))
       go (some l) d = absurd (true≢false (sym t ∙ present l d))
 
   -- and where it is a profit
   pub find-some : leZ z missing ≡ false
-      → (Planned (record { 0 = z }) ≡ planned c work ys (bestOf c) .answer) × (zs ≡ planned c work ys (bestOf c) .outputs)
+      → (Planned (record { 0 = z }) ≡ planned c work ys (bestOf c) .answer) ×
+      (zs ≡ planned c work ys (bestOf c) .outputs)
   unfolding planned unitOf
   find-some t = go (bestOf c) refl
     where

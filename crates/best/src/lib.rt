@@ -1,6 +1,7 @@
-// The best day of a case in lent memory: its list in the first outputs, its profit, and the working numbers zeroed; 11 exactly where no
-// list keeps every rule. What is answered and left for every input is model's specs/Answers, `scheduleOf`; the best list is `bestOf` of
-// model's specs/Best. A case outside the limits is refused by 2 to 8, memory that is too short by 10, and nothing is changed then.
+// The best day of a case in lent memory: its list in the first outputs, its profit, and the working numbers zeroed; 11
+// exactly where no list keeps every rule. What is answered and left for every input is model's specs/Answers,
+// `scheduleOf`; the best list is `bestOf` of model's specs/Best. A case outside the limits is refused by 2 to 8, memory
+// that is too short by 10, and nothing is changed then.
 mod unit;
 mod wipe;
 
@@ -44,14 +45,16 @@ fn search_first(u: Unit, s: State, work: &mut [i64], outputs: &mut [u16]) -> Hal
     search::search(u, s, &mut work[0..WORK], outputs)
 }
 
-// The best list of a case within the limits, in memory that is long enough: the working numbers are zeroed, and the list, if there is one,
-// fills the first outputs.
+// The best list of a case within the limits, in memory that is long enough: the working numbers are zeroed, and the
+// list, if there is one, fills the first outputs.
 fn find(case: Case, work: &mut [i64], outputs: &mut [u16]) -> Plan
     requires { ⌜ refusalOf case ≡ 0 ⌝ }
     requires { ⌜ (workLength ≤ length (now work)) × (case .hours ≤ length (now outputs)) ⌝ }
     ensures answer { λ r. ⌜ r ≡ (planned case (now (work .entry)) (now (outputs .entry)) (bestOf case)) .answer ⌝ }
-    ensures work { λ _. ⌜ now (work .exit) ≡ (planned case (now (work .entry)) (now (outputs .entry)) (bestOf case)) .work ⌝ }
-    ensures outputs { λ _. ⌜ now (outputs .exit) ≡ (planned case (now (work .entry)) (now (outputs .entry)) (bestOf case)) .outputs ⌝ }
+    ensures work { λ _. ⌜ now (work .exit)
+        ≡ (planned case (now (work .entry)) (now (outputs .entry)) (bestOf case)) .work ⌝ }
+    ensures outputs { λ _. ⌜ now (outputs .exit)
+        ≡ (planned case (now (work .entry)) (now (outputs .entry)) (bestOf case)) .outputs ⌝ }
 {
     let unit = unit::unit_of(case);
     let opening = unit::opening_of(case);
@@ -63,10 +66,11 @@ fn find(case: Case, work: &mut [i64], outputs: &mut [u16]) -> Plan
     Plan::Found(worth)
 }
 
-// The best list of the case of a reading. A refused reading is returned as it is, and the record of an accepted one is tested again. On 2
-// to 8 and on 10 nothing is changed.
+// The best list of the case of a reading. A refused reading is returned as it is, and the record of an accepted one is
+// tested again. On 2 to 8 and on 10 nothing is changed.
 pub fn schedule(reading: Reading, work: &mut [i64], outputs: &mut [u16]) -> Plan
-    ensures answer { λ r. ⌜ r ≡ (scheduleOf (reading .outcome) (reading .case) (now (work .entry)) (now (outputs .entry))) .answer ⌝ }
+    ensures answer { λ r. ⌜ r ≡ (scheduleOf (reading .outcome) (reading .case) (now (work .entry))
+        (now (outputs .entry))) .answer ⌝ }
     ensures work { λ _. ⌜ now (work .exit)
         ≡ (scheduleOf (reading .outcome) (reading .case) (now (work .entry)) (now (outputs .entry))) .work ⌝ }
     ensures outputs { λ _. ⌜ now (outputs .exit)

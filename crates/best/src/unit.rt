@@ -47,7 +47,8 @@ fn margin(price: u16, variable: u32) -> HalfMills
 // The margins of the first n hours, and 0 past them.
 fn margins(prices: [u16; HOURS], variable: u32, n: usize) -> [HalfMills; HOURS]
     requires { ⌜ n ≤ mostHours ⌝ }
-    ensures { λ r. ⌜ r ≡ padded (record { 0 = pos 0 }) (λ k. record { 0 = pos (getD prices k 0) -ℤ pos variable }) n mostHours ⌝ }
+    ensures { λ r. ⌜ r ≡ padded (record { 0 = pos 0 })
+        (λ k. record { 0 = pos (getD prices k 0) -ℤ pos variable }) n mostHours ⌝ }
     ensures { λ _. ⌜ ((k : ℕ) → getD prices k 0 < 65536) ⌝ }
 {
     let mut amounts = [HalfMills(0); HOURS];

@@ -59,7 +59,8 @@ pub picks-span : (f : ℕ → Option ℤ) (g : ℕ → ℤ) (a m : ℕ)
 unfolding over span
 picks-span f g a zero h = refl
 picks-span f g a (suc m) h =
-    let low : (p : ℕ) → a ≤ p → p < a + m → (Bounded (2 ^ 43) (f p)) × (g p ≡ coded (f p)) = λ p x y. h p x (omega arith) in
+    let low : (p : ℕ) → a ≤ p → p < a + m → (Bounded (2 ^ 43) (f p)) × (g p ≡ coded (f p)) =
+    λ p x y. h p x (omega arith) in
     let one = h (a + m) (omega arith) (omega arith) in
     let top : lonePick (a + m) (g (a + m)) ≡ pickOf (lone (a + m) (f (a + m))) =
     ap (lonePick (a + m)) (one .1) ∙ lone-of (a + m) (one .0) in

@@ -25,7 +25,8 @@ lonePick q z = cond (leZ z missing) noPick (record { at = q; worth = record { 0 
 unfoldable pub betterPick : Pick → Pick → Pick
 betterPick a b = cond (ltZ (a .worth .0) (b .worth .0)) b a
 
--- the best of the outputs from a on, m of them, the row xs being that of the outputs from lo on: `first` is added at a, and `slope`
+-- the best of the outputs from a on, m of them, the row xs being that of the outputs from lo on: `first` is added at a,
+-- and `slope`
 -- more from output to output
 unfoldable pub scanned : List ℤ → ℕ → ℕ → ℤ → ℤ → ℕ → Pick
 scanned xs lo a first slope m =

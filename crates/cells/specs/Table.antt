@@ -1,4 +1,5 @@
--- What the rows and registers of a search hold: the worth of each state from an hour on. Definitions only. Assumes nothing.
+-- What the rows and registers of a search hold: the worth of each state from an hour on. Definitions only. Assumes
+-- nothing.
 use mathlib.Core.Path.{_≡_}
 use mathlib.Core.Option.{Option}
 use mathlib.Core.List.{List, _++_}
@@ -13,7 +14,8 @@ use Rattle.machine.specs.declared.State.{State}
 use Rattle.machine.specs.declared.State.the-variants.{Off, Rise, Run, Fall}
 use Rattle.machine.specs.Moves.{machine, worth, brought}
 
--- cells of a side: 9 for the hours off-line, from cell 0, 8 for the start sequence, from cell 9, and 8 for the stop sequence, from 17
+-- cells of a side: 9 for the hours off-line, from cell 0, 8 for the start sequence, from cell 9, and 8 for the stop
+-- sequence, from 17
 abbrev pub sideLength : ℕ
 sideLength = 25
 
@@ -75,7 +77,8 @@ pub record Ahead (u : Unit) (k j : ℕ) (xs ys : List ℤ) : Type 0 where
   pub row : Row u (suc k) (j - 1) xs
   pub side : j ≤ 1 → Side u (suc k) ys
 
--- the answer of the search: the worth of the first state, and its plan, if it has a worth, before what was lent past the last hour
+-- the answer of the search: the worth of the first state, and its plan, if it has a worth, before what was lent past
+-- the last hour
 pub record Found (u : Unit) (s : State) (ys zs : List ℕ) (z : ℤ) : Type 0 where
   pub profit : z ≡ coded (worth u 0 s)
   pub list : zs ≡ maybe ys (λ v. planAt (machine u) 0 s ++ drop (u .hours) ys) (worth u 0 s)

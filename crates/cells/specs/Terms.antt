@@ -1,4 +1,5 @@
--- What an hour pays and asks, apart from the unit: the terms of an hour, and what it earns by them. The names are those of machine's
+-- What an hour pays and asks, apart from the unit: the terms of an hour, and what it earns by them. The names are those
+-- of machine's
 -- specs/Moves, of which these are the same by another argument (proofs/TermsLaws). Definitions only. Assumes nothing.
 use mathlib.Core.Bool.{Bool, not, cond}
 use Prim.Native.Nat.{ℕ, _+_, _≤_, _^_}

@@ -1,12 +1,13 @@
-// What an hour brings from one output to another, and the better of two choices. A choice is an output and the code of what can be earned
-// with it: among equal earners the lower output stays. The definitions are those of specs/Terms and specs/Picks. Each function is called
-// by crates of this repository, which keep what it asks for.
+// What an hour brings from one output to another, and the better of two choices. A choice is an output and the code of
+// what can be earned with it: among equal earners the lower output stays. The definitions are those of specs/Terms and
+// specs/Picks. Each function is called by crates of this repository, which keep what it asks for.
 use machine::Unit;
 use model::HalfMills;
 ghost use mathlib.Core.Path.{_≡_};
 ghost use Prim.Native.Nat.{ℕ, _+_, _-_, _≤_, _<_, _^_};
 ghost use lib.ListN.{length};
 ghost use lib.IntN.{natAbs};
+ghost use Rattle.model.specs.Limits.{mostHours};
 ghost use Rattle.window.specs.Rows.{Small};
 ghost use Rattle.cells.specs.Terms.{termsOf, obeysBy, chargeBy, earnBy, broughtBy, Fair};
 ghost use Rattle.cells.specs.Picks.{noPick, lonePick, betterPick, scanned};
@@ -40,7 +41,7 @@ pub struct Pick {
 
 // The terms of hour k.
 pub fn terms_of(u: Unit, k: usize) -> Terms
-    requires { ⌜ k < 48 ⌝ }
+    requires { ⌜ k < mostHours ⌝ }
     ensures { λ r. ⌜ r ≡ termsOf u k ⌝ }
 {
     let m = u.margins[k];
@@ -124,8 +125,8 @@ pub fn better(a: Pick, b: Pick) -> Pick
     if money::below(a.worth, b.worth) { b } else { a }
 }
 
-// The best of the outputs from a to before b. The row is that of the outputs from lo on; `first` is added at a, and `slope` more from
-// output to output.
+// The best of the outputs from a to before b. The row is that of the outputs from lo on; `first` is added at a, and
+// `slope` more from output to output.
 pub fn scan(row: &[i64], lo: usize, a: usize, b: usize, first: HalfMills, slope: HalfMills) -> Pick
     requires { ⌜ (lo ≤ a) × (a ≤ b) × (b ≤ lo + length (now row)) × (b ≤ 2 ^ 10) × (Small (now row) (b - lo)) ⌝ }
     requires { ⌜ (natAbs (first .0) ≤ 2 ^ 36) × (natAbs (slope .0) ≤ 2 ^ 24) ⌝ }

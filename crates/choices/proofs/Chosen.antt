@@ -40,16 +40,26 @@ module _ (u : Unit) (fit : Fit u) (k : ℕ) where
   one-size : (q p : ℕ) (s : State) → q + p ≤ 2 ^ 11 → Bounded (2 ^ 43) (brought u k q p (worth u (suc k) s))
   one-size q p s h = brought-size u fit k q p (worth u (suc k) s) h (worth-size u fit (suc k) s)
 
-  one-of : (q p : ℕ) (s : State) → q + p ≤ 2 ^ 11 → lonePick p (broughtBy (termsOf u k) q p (coded (worth u (suc k) s))) ≡ pickOf (lone p (brought u k q p (worth u (suc k) s)))
+  one-of : (q p : ℕ) (s : State) → q + p ≤ 2 ^ 11 → lonePick p (broughtBy (termsOf u k) q p (coded (worth u (suc k) s)))
+      ≡ pickOf (lone p (brought u k q p (worth u (suc k) s)))
   one-of q p s h = rw (brought-of u k q p (worth-size u fit (suc k) s)) (lone-of p (one-size q p s h))
 
-  pub chosen-rise : (i : ℕ) → lonePick (getD (u .pu) (i + 1) 0) (broughtBy (termsOf u k) (getD (u .pu) i 0) (getD (u .pu) (i + 1) 0) (coded (worth u (suc k) (risen u (i + 1))))) ≡ pickOf (choiceAt (machine u) k (Rise i))
-  chosen-rise i = one-of (getD (u .pu) i 0) (getD (u .pu) (i + 1) 0) (risen u (i + 1)) (pu-sum u fit i (i + 1)) ∙ ap pickOf (sym (choice-rise u fit k i))
+  pub chosen-rise : (i : ℕ) → lonePick (getD (u .pu) (i + 1) 0)
+      (broughtBy (termsOf u k) (getD (u .pu) i 0) (getD (u .pu) (i + 1) 0) (coded (worth u (suc k) (risen u (i + 1)))))
+      ≡ pickOf (choiceAt (machine u) k (Rise i))
+  chosen-rise i =
+      one-of (getD (u .pu) i 0) (getD (u .pu) (i + 1) 0) (risen u (i + 1)) (pu-sum u fit i (i + 1)) ∙ ap pickOf
+      (sym (choice-rise u fit k i))
 
-  pub chosen-fall : (i : ℕ) → lonePick (sunk u (i + 1)) (broughtBy (termsOf u k) (getD (u .pd) i 0) (sunk u (i + 1)) (coded (worth u (suc k) (fallen u (i + 1))))) ≡ pickOf (choiceAt (machine u) k (Fall i))
-  chosen-fall i = one-of (getD (u .pd) i 0) (sunk u (i + 1)) (fallen u (i + 1)) (sunk-sum u fit (getD (u .pd) i 0) (i + 1) (pd-small u fit i) (omega arith)) ∙ ap pickOf (sym (choice-fall u fit k i))
+  pub chosen-fall : (i : ℕ) → lonePick (sunk u (i + 1)) (broughtBy (termsOf u k) (getD (u .pd) i 0) (sunk u (i + 1))
+      (coded (worth u (suc k) (fallen u (i + 1))))) ≡ pickOf (choiceAt (machine u) k (Fall i))
+  chosen-fall i =
+      one-of (getD (u .pd) i 0) (sunk u (i + 1)) (fallen u (i + 1))
+      (sunk-sum u fit (getD (u .pd) i 0) (i + 1) (pd-small u fit i) (omega arith)) ∙ ap pickOf
+      (sym (choice-fall u fit k i))
 
-  pub chosen-wait : (d : ℕ) → d < u .mindown → lonePick 0 (broughtBy (termsOf u k) 0 0 (coded (worth u (suc k) (Off (min (d + 1) (u .mindown)))))) ≡ pickOf (choiceAt (machine u) k (Off d))
+  pub chosen-wait : (d : ℕ) → d < u .mindown → lonePick 0 (broughtBy (termsOf u k) 0 0
+      (coded (worth u (suc k) (Off (min (d + 1) (u .mindown)))))) ≡ pickOf (choiceAt (machine u) k (Off d))
   chosen-wait d h =
       let s = Off (min (d + 1) (u .mindown)) in
       let e = rw (lt-leb (u .mindown) d h) at (choice-off u fit k d) in
@@ -75,19 +85,25 @@ module _ (u : Unit) (fit : Fit u) (k : ℕ) where
 
     across-size : Bounded (2 ^ 43) (across .worth)
     unfolding across
-    across-size = span-size (2 ^ 43) (onward u k r j) (lowest u r) (reach u r) (λ p a b. onward-size u fit k r j hi p (omega (arith, reach-le u fit r lo hi)))
+    across-size =
+        span-size (2 ^ 43) (onward u k r j) (lowest u r) (reach u r)
+        (λ p a b. onward-size u fit k r j hi p (omega (arith, reach-le u fit r lo hi)))
 
-    pub chosen-leave : j ≡ 0 → r ≡ u .minimum → betterPick (lonePick (sunk u 1) (broughtBy (termsOf u k) r (sunk u 1) (coded (worth u (suc k) (fallen u 1))))) (pickOf (span (onward u k r j) (lowest u r) (reach u r))) ≡ pickOf (choiceAt (machine u) k (Run r j))
+    pub chosen-leave : j ≡ 0 → r ≡ u .minimum → betterPick (lonePick (sunk u 1)
+        (broughtBy (termsOf u k) r (sunk u 1) (coded (worth u (suc k) (fallen u 1)))))
+        (pickOf (span (onward u k r j) (lowest u r) (reach u r))) ≡ pickOf (choiceAt (machine u) k (Run r j))
     unfolding across onward leaves
     chosen-leave e d =
         let q = sunk u 1 in
         let hq = sunk-sum u fit r 1 hi (omega arith) in
         let c = rw (eq-eqb j 0 e, eq-eqb r (u .minimum) d) at (choice-run u fit k r j lo hi) in
         rw (one-of r q (fallen u 1) hq)
-        (better-of (lone q (brought u k r q (worth u (suc k) (fallen u 1)))) across (lone-size (2 ^ 43) q (one-size r q (fallen u 1) hq)) across-size
+        (better-of (lone q (brought u k r q (worth u (suc k) (fallen u 1)))) across
+        (lone-size (2 ^ 43) q (one-size r q (fallen u 1) hq)) across-size
         ∙ ap pickOf (sym c))
 
-    pub chosen-stay : leaves u r j ≡ false → pickOf (span (onward u k r j) (lowest u r) (reach u r)) ≡ pickOf (choiceAt (machine u) k (Run r j))
+    pub chosen-stay : leaves u r j ≡ false → pickOf (span (onward u k r j) (lowest u r) (reach u r)) ≡ pickOf
+        (choiceAt (machine u) k (Run r j))
     unfolding onward
     chosen-stay e =
         let c = rw e at (choice-run u fit k r j lo hi) in

@@ -76,7 +76,11 @@ module _ (u : Unit) (fit : Fit u) (k r j : ℕ) (lo : u .minimum ≤ r) (hr : r 
   unfolding onward brought obeys
   across-none e =
       ap pickOf (sym (span-none (onward u k r j) (lowest u r) (reach u r)
-      (λ p a b. rw (ne-eqb p 0 (λ z. omega (arith, fit .minimum-pos, lowest-le u fit r)), eq-eqb (getD (u .orders) k 0) 2 e))))
+      (λ p a b. rw (
+        ne-eqb p 0 (λ z. omega (arith, fit .minimum-pos, lowest-le u fit r)),
+        eq-eqb (getD (u .orders) k 0)
+            2 e,
+      ))))
 
   cell-is : {xs : List ℤ} → Row u (suc k) (j - 1) xs → (p : ℕ) → u .minimum ≤ p → p ≤ u .capacity
       → getD xs (p - u .minimum) (pos 0) ≡ coded (worth u (suc k) (Run p (j - 1)))
@@ -86,11 +90,16 @@ module _ (u : Unit) (fit : Fit u) (k r j : ℕ) (lo : u .minimum ≤ r) (hr : r 
 
   one : {xs : List ℤ} → Row u (suc k) (j - 1) xs → (getD (u .orders) k 0 ≡ 2 → ⊥) → (a p : ℕ) → u .minimum ≤ a → a ≤ p
       → p ≤ u .capacity
-      → plus (sloped (earn u k r a) ((getD (u .margins) k (record { 0 = pos 0 })) .0) (p - a)) (getD xs (p - u .minimum) (pos 0))
+      → plus (sloped (earn u k r a) ((getD (u .margins) k (record { 0 = pos 0 })) .0) (p - a))
+      (getD xs (p - u .minimum) (pos 0))
       ≡ coded (onward u k r j p)
   unfolding onward brought obeys
   one {xs} row n a p ha h l =
-      rw (earn-sloped u k r a p (omega (arith, fit .minimum-pos)) (omega (arith, fit .minimum-pos)) h, cell-is row p (omega arith) l)
+      rw (
+        earn-sloped u k r a p (omega (arith, fit .minimum-pos)) (omega (arith, fit .minimum-pos)) h,
+        cell-is row p
+            (omega arith) l,
+      )
       (coded-add (earn u k r p) (2 ^ 42) (omega arith) (worth-size u fit (suc k) (Run p (j - 1)))
       ∙ rw (ne-eqb p 0 (λ z. omega (arith, fit .minimum-pos)), ne-eqb (getD (u .orders) k 0) 2 n) refl)
 
@@ -102,7 +111,8 @@ module _ (u : Unit) (fit : Fit u) (k r j : ℕ) (lo : u .minimum ≤ r) (hr : r 
   across-scanned {xs} row n a m first ea em ef =
       rw (ef, earnBy-of u k r a)
       (picks-span (onward u k r j)
-      (λ p. plus (sloped (earn u k r a) ((getD (u .margins) k (record { 0 = pos 0 })) .0) (p - a)) (getD xs (p - u .minimum) (pos 0)))
+      (λ p. plus (sloped (earn u k r a) ((getD (u .margins) k (record { 0 = pos 0 })) .0) (p - a))
+      (getD xs (p - u .minimum) (pos 0)))
       a m
       (λ p x y. (
         onward-size u fit k r j hr p (omega (arith, reach-le u fit r lo hr)),

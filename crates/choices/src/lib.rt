@@ -1,6 +1,7 @@
-// The choice of an hour in each kind of state, from what the states after it are worth, and the state that follows an output. Each choice is
-// that of the machine: output and worth, the lowest output among equal earners. The definitions are those of machine's specs/Moves and of cells' specs. Each
-// function is called by crates of this repository, which keep what it asks for.
+// The choice of an hour in each kind of state, from what the states after it are worth, and the state that follows an
+// output. Each choice is that of the machine: output and worth, the lowest output among equal earners. The definitions
+// are those of machine's specs/Moves and of cells' specs. Each function is called by crates of this repository, which
+// keep what it asks for.
 use cells::FALLS;
 use cells::Pick;
 use cells::RISES;
@@ -17,6 +18,7 @@ ghost use lib.Dec.{ltb};
 ghost use lib.ListN.{getD, length};
 ghost use lib.IntN.{ℤ};
 ghost use Prim.Native.Nat.{ℕ, suc, _+_, _-_, _≤_, _<_};
+ghost use Rattle.model.specs.Limits.{mostStages, mostHours};
 ghost use Rattle.machine.specs.Search.{choiceAt};
 ghost use Rattle.machine.specs.Span.{span};
 ghost use Rattle.machine.specs.Coded.{coded};
@@ -25,11 +27,11 @@ ghost use Rattle.machine.specs.Fit.{Fit};
 ghost use Rattle.machine.specs.declared.State.the-variants.{Off, Rise, Run, Fall};
 ghost use Rattle.cells.specs.Picks.{pickOf};
 ghost use Rattle.machine.specs.Proper.{Proper};
-ghost use Rattle.cells.specs.Table.{Row, Side, Ahead, lockOf, entry, onward};
+ghost use Rattle.cells.specs.Table.{Row, Side, Ahead, lockOf, entry, onward, sideLength};
 
 // The output at entry i of a stop sequence pd of so many entries, 0 past its end.
 pub fn sunk_at(pd: [usize; STAGES], falls: usize, i: usize) -> usize
-    requires { ⌜ falls ≤ 8 ⌝ }
+    requires { ⌜ falls ≤ mostStages ⌝ }
     ensures { λ r. ⌜ r ≡ cond (ltb i falls) (getD pd i 0) 0 ⌝ }
 {
     if i < falls {
@@ -40,7 +42,7 @@ pub fn sunk_at(pd: [usize; STAGES], falls: usize, i: usize) -> usize
 
 // The worth of a unit at entry i of its start sequence of so many entries, `e` being that of a unit just after it.
 pub fn risen_worth(rises: usize, i: usize, side: &[i64; SIDE], e: HalfMills) -> HalfMills
-    requires { ⌜ (i < rises) × (rises ≤ 8) × (length (now side) ≡ 25) ⌝ }
+    requires { ⌜ (i < rises) × (rises ≤ mostStages) × (length (now side) ≡ sideLength) ⌝ }
     ensures { λ r. ⌜ ((u : Unit) (k : ℕ) → rises ≡ u .rises → Side u k (now (side .entry)) → e .0 ≡ entry u k
         → r .0 ≡ coded (worth u k (risen u i))) ⌝ }
 {
@@ -52,7 +54,7 @@ pub fn risen_worth(rises: usize, i: usize, side: &[i64; SIDE], e: HalfMills) -> 
 
 // The worth of a unit at entry i of its stop sequence of so many entries, or just past it.
 pub fn fallen_worth(falls: usize, i: usize, side: &[i64; SIDE]) -> HalfMills
-    requires { ⌜ (falls ≤ 8) × (length (now side) ≡ 25) ⌝ }
+    requires { ⌜ (falls ≤ mostStages) × (length (now side) ≡ sideLength) ⌝ }
     ensures { λ r. ⌜ ((u : Unit) (k : ℕ) → falls ≡ u .falls → 1 ≤ u .mindown → Side u k (now (side .entry))
         → r .0 ≡ coded (worth u k (fallen u i))) ⌝ }
 {
@@ -65,7 +67,7 @@ pub fn fallen_worth(falls: usize, i: usize, side: &[i64; SIDE]) -> HalfMills
 // Off-line for d hours: stay, or start where the minimum down time is over.
 pub fn choose_off(u: Unit, k: usize, d: usize, side: &[i64; SIDE], e: HalfMills) -> Pick
     requires { ⌜ Fit u ⌝ }
-    requires { ⌜ (k < 48) × (d ≤ u .mindown) × (Side u (suc k) (now side)) × (e .0 ≡ entry u (suc k)) ⌝ }
+    requires { ⌜ (k < mostHours) × (d ≤ u .mindown) × (Side u (suc k) (now side)) × (e .0 ≡ entry u (suc k)) ⌝ }
     ensures { λ r. ⌜ r ≡ pickOf (choiceAt (machine u) k (Off d)) ⌝ }
 {
     let t = cells::terms_of(u, k);
@@ -82,7 +84,7 @@ pub fn choose_off(u: Unit, k: usize, d: usize, side: &[i64; SIDE], e: HalfMills)
 // In a start sequence at entry i: its next output.
 pub fn choose_rise(u: Unit, k: usize, i: usize, side: &[i64; SIDE], e: HalfMills) -> Pick
     requires { ⌜ Fit u ⌝ }
-    requires { ⌜ (k < 48) × (i + 1 < u .rises) × (Side u (suc k) (now side)) × (e .0 ≡ entry u (suc k)) ⌝ }
+    requires { ⌜ (k < mostHours) × (i + 1 < u .rises) × (Side u (suc k) (now side)) × (e .0 ≡ entry u (suc k)) ⌝ }
     ensures { λ r. ⌜ r ≡ pickOf (choiceAt (machine u) k (Rise i)) ⌝ }
 {
     let t = cells::terms_of(u, k);
@@ -95,7 +97,7 @@ pub fn choose_rise(u: Unit, k: usize, i: usize, side: &[i64; SIDE], e: HalfMills
 // In a stop sequence at entry i: its next output.
 pub fn choose_fall(u: Unit, k: usize, i: usize, side: &[i64; SIDE]) -> Pick
     requires { ⌜ Fit u ⌝ }
-    requires { ⌜ (k < 48) × (i < u .falls) × (Side u (suc k) (now side)) ⌝ }
+    requires { ⌜ (k < mostHours) × (i < u .falls) × (Side u (suc k) (now side)) ⌝ }
     ensures { λ r. ⌜ r ≡ pickOf (choiceAt (machine u) k (Fall i)) ⌝ }
 {
     let t = cells::terms_of(u, k);
@@ -109,7 +111,7 @@ pub fn choose_fall(u: Unit, k: usize, i: usize, side: &[i64; SIDE]) -> Pick
 // The best of the outputs that r can reach on-line, with j hours to go before a stop may begin.
 pub fn across(u: Unit, k: usize, r: usize, j: usize, row: &[i64; ROW]) -> Pick
     requires { ⌜ Fit u ⌝ }
-    requires { ⌜ (k < 48) × (u .minimum ≤ r) × (r ≤ u .capacity) × (Row u (suc k) (j - 1) (now row)) ⌝ }
+    requires { ⌜ (k < mostHours) × (u .minimum ≤ r) × (r ≤ u .capacity) × (Row u (suc k) (j - 1) (now row)) ⌝ }
     ensures { λ q. ⌜ q ≡ pickOf (span (onward u k r j) (lowest u r) (reach u r)) ⌝ }
 {
     let t = cells::terms_of(u, k);
@@ -123,11 +125,11 @@ pub fn across(u: Unit, k: usize, r: usize, j: usize, row: &[i64; ROW]) -> Pick
     cells::scan(row, lo, a, b, first, t.margin)
 }
 
-// On-line at output r: a stop, where one may begin, or an output within the ramps. `v` is the worth after a stop begins; it is looked at
-// where one may.
+// On-line at output r: a stop, where one may begin, or an output within the ramps. `v` is the worth after a stop
+// begins; it is looked at where one may.
 pub fn choose_run(u: Unit, k: usize, r: usize, j: usize, row: &[i64; ROW], v: HalfMills) -> Pick
     requires { ⌜ Fit u ⌝ }
-    requires { ⌜ (k < 48) × (u .minimum ≤ r) × (r ≤ u .capacity) × (Row u (suc k) (j - 1) (now row)) ⌝ }
+    requires { ⌜ (k < mostHours) × (u .minimum ≤ r) × (r ≤ u .capacity) × (Row u (suc k) (j - 1) (now row)) ⌝ }
     requires { ⌜ (j ≡ 0 → v .0 ≡ coded (worth u (suc k) (fallen u 1))) ⌝ }
     ensures { λ q. ⌜ q ≡ pickOf (choiceAt (machine u) k (Run r j)) ⌝ }
 {
@@ -186,7 +188,7 @@ pub fn choose(
 
 // The state at entry i of the start sequence, and at entry i of the stop sequence.
 pub fn risen_at(u: Unit, i: usize) -> State
-    requires { ⌜ i < 8 ⌝ }
+    requires { ⌜ i < mostStages ⌝ }
     ensures { λ r. ⌜ r ≡ risen u i ⌝ }
 {
     if i + 1 < u.rises {

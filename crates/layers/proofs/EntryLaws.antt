@@ -36,5 +36,6 @@ module _ (u : Unit) where
   pub entries-end : (xs : List ℤ) → Fit u → length xs ≡ mostHours + 1 → Entries u (u .hours) (set xs (u .hours) (pos 0))
   unfolding entry
   entries-end xs fit e =
-      entries-step (u .hours) {v = pos 0} {xs = xs} (fit .hours-le) (record { long = e; at = λ k a b. absurd (omega arith) })
+      entries-step (u .hours) {v = pos 0} {xs = xs} (fit .hours-le)
+      (record { long = e; at = λ k a b. absurd (omega arith) })
       (sym (ends u (Run (u .minimum) (u .lock))))

@@ -3,7 +3,8 @@ use mathlib.Core.Path.{_≡_, refl, sym, ap, _∙_, subst}
 use mathlib.Core.List.{List}
 use mathlib.Core.Logic.{_⊎_, inl, inr}
 use Prim.Native.Nat.{ℕ, zero, suc, _+_, _-_, _*_, _/_, _%_, _≤_, _<_}
-use native.Mathlib.Nat.{eq-or-lt-of-le, div-add-mod', mod-lt, mul-mod-left, mul-div-cancel, div-lt-iff-lt-mul, mul-le-mul-right, suc-mul}
+use native.Mathlib.Nat.{eq-or-lt-of-le, div-add-mod', mod-lt, mul-mod-left, mul-div-cancel, div-lt-iff-lt-mul}
+use native.Mathlib.Nat.{mul-le-mul-right, suc-mul}
 use native.Mathlib.Omega.{arith}
 use lib.ListN.{length, getD}
 use lib.IntN.{ℤ, pos}
@@ -26,7 +27,8 @@ module _ (u : Unit) (k : ℕ) where
         fall = λ i e l. ap (λ n. getD ys n (pos 0)) e ∙ s .falls i l;
       }
 
-  cells-side : Fit u → {ys : List ℤ} → length ys ≡ sideLength → ((c : ℕ) → c < sideLength → SideCell u k c (getD ys c (pos 0)))
+  cells-side : Fit u → {ys : List ℤ} → length ys ≡ sideLength →
+      ((c : ℕ) → c < sideLength → SideCell u k c (getD ys c (pos 0)))
       → Side u k ys
   cells-side fit l f =
       record {
@@ -44,14 +46,16 @@ module _ (u : Unit) (k : ℕ) where
       record {
         long = q .long ∙ p .long;
         saved = record {
-          row = λ i h. q .other (off + i) (λ j a b e. omega arith) ∙ p .done i (omega arith) (omega arith) ∙ l .row .at i h;
+          row = λ i h. q .other (off + i) (λ j a b e. omega arith) ∙ p .done i (omega arith) (omega arith) ∙
+              l .row .at i h;
           side = λ c h. subst (SideCell u k c) (sym (q .done c (omega arith) h)) (side-cells (l .side) c);
         };
         below = λ i h. q .other i (λ j a b e. omega arith) ∙ p .other i (λ j a b e. omega arith);
         above = λ i h. q .other i (λ j a b e. omega arith) ∙ p .other i (λ j a b e. omega arith);
       }
 
-  pub layer-of : Fit u → {xs ps qs cs ds : List ℤ} (off : ℕ) → length ps ≡ mostOutput → length cs ≡ sideLength → SavedAt u k off xs
+  pub layer-of : Fit u → {xs ps qs cs ds : List ℤ} (off : ℕ) → length ps ≡ mostOutput → length cs ≡ sideLength → SavedAt
+      u k off xs
       → Written ps qs 0 (cellsOf u) (λ i. getD xs (off + i) (pos 0))
       → Written cs ds 0 sideLength (λ i. getD xs (off + cellsOf u + i) (pos 0)) → Layer u k qs ds
   layer-of fit off la lc s p q =
@@ -88,8 +92,10 @@ module _ (u : Unit) (l w : ℕ) (slots : Slotted u l w) where
       go t b (inr a) = s .at t a b
 
   -- an hour whose slot is filled
-  pub saved-step : (k : ℕ) {xs zs : List ℤ} → k % l ≡ 0 → Kept u k (k / l * w) xs zs → Saved u l w (suc k) xs → Saved u l w k zs
-  saved-step k {xs} {zs} e p s = record { room = omega (arith, p .long, s .room); at = λ t a b. go t b (eq-or-lt-of-le a) }
+  pub saved-step : (k : ℕ) {xs zs : List ℤ} → k % l ≡ 0 → Kept u k (k / l * w) xs zs → Saved u l w (suc k) xs → Saved u
+      l w k zs
+  saved-step k {xs} {zs} e p s =
+      record { room = omega (arith, p .long, s .room); at = λ t a b. go t b (eq-or-lt-of-le a) }
     where
       go : (t : ℕ) → t * l < u .hours → (k ≡ t * l) ⊎ (k < t * l) → SavedAt u (t * l) (t * w) zs
       go t b (inl q) =
@@ -97,7 +103,8 @@ module _ (u : Unit) (l w : ℕ) (slots : Slotted u l w) where
           subst (λ n. SavedAt u n (t * w) zs) q (subst (λ n. SavedAt u k (n * w) zs) d (p .saved))
       go t b (inr a) =
           let d : k / l < t = div-lt-iff-lt-mul (slots .stride-pos) .1 a in
-          saved-at-same u (t * l) (t * w) (λ i x y. p .above i (omega (arith, slot-after (k / l) t w d, slots .width))) (s .at t a b)
+          saved-at-same u (t * l) (t * w) (λ i x y. p .above i (omega (arith, slot-after (k / l) t w d, slots .width)))
+          (s .at t a b)
 
   -- the slot of an hour lies within the working numbers
   pub slot-room : (k : ℕ) → k % l ≡ 0 → k < u .hours → k / l * w + w ≤ workLength

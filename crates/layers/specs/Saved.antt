@@ -17,7 +17,8 @@ cellsOf u = u .capacity + 1 - u .minimum
 
 -- the layer of hour k at off: its cells, and its side after them
 pub record SavedAt (u : Unit) (k off : ℕ) (xs : List ℤ) : Type 0 where
-  pub row : (i : ℕ) → u .minimum + i ≤ u .capacity → getD xs (off + i) (pos 0) ≡ coded (worth u k (Run (u .minimum + i) 0))
+  pub row : (i : ℕ) → u .minimum + i ≤ u .capacity → getD xs (off + i) (pos 0) ≡ coded
+      (worth u k (Run (u .minimum + i) 0))
   pub side : (c : ℕ) → c < sideLength → SideCell u k c (getD xs (off + cellsOf u + c) (pos 0))
 
 -- the layer of hour k is put at off, and nothing else is changed

@@ -1,6 +1,7 @@
-// The layers of a day: a row and a side, an hour back; the entry of an hour, which is the row of the hour at which its lock ends, taken down
-// with no stop; and every l-th layer in a slot of its own among the working numbers. The definitions are those of specs/Saved and of cells'
-// specs/Table. Each function is called by crates of this repository, which keep what it asks for.
+// The layers of a day: a row and a side, an hour back; the entry of an hour, which is the row of the hour at which its
+// lock ends, taken down with no stop; and every l-th layer in a slot of its own among the working numbers. The
+// definitions are those of specs/Saved and of cells' specs/Table. Each function is called by crates of this repository,
+// which keep what it asks for.
 use cells::ENTRIES;
 use cells::ROW;
 use cells::SIDE;
@@ -80,7 +81,8 @@ pub fn enter(u: Unit, k: usize, row: &[i64; ROW], entries: &mut [i64; ENTRIES])
 // The first n of `from` into the working numbers, from `off` on.
 pub fn copy_out(work: &mut [i64], off: usize, from: &[i64], n: usize)
     requires { ⌜ (off + n ≤ length (now work)) × (n ≤ length (now from)) ⌝ }
-    ensures { λ _. ⌜ Part (pos 0) (now (work .entry)) (now (work .exit)) off 0 n (λ i. getD (now (from .entry)) i (pos 0)) ⌝ }
+    ensures { λ _. ⌜ Part (pos 0) (now (work .entry)) (now (work .exit)) off 0 n
+        (λ i. getD (now (from .entry)) i (pos 0)) ⌝ }
 {
     let mut i = 0;
     while i < n {
@@ -93,7 +95,8 @@ pub fn copy_out(work: &mut [i64], off: usize, from: &[i64], n: usize)
 // The working numbers from `off` on into the first n of `to`.
 pub fn copy_in(work: &[i64], off: usize, to: &mut [i64], n: usize)
     requires { ⌜ (off + n ≤ length (now work)) × (n ≤ length (now to)) ⌝ }
-    ensures { λ _. ⌜ Written (now (to .entry)) (now (to .exit)) 0 n (λ i. getD (now (work .entry)) (off + i) (pos 0)) ⌝ }
+    ensures { λ _. ⌜ Written (now (to .entry)) (now (to .exit)) 0 n
+        (λ i. getD (now (work .entry)) (off + i) (pos 0)) ⌝ }
 {
     let mut i = 0;
     while i < n {
@@ -151,7 +154,8 @@ pub fn save_if(
     work: &mut [i64],
 )
     requires { ⌜ Fit u ⌝ }
-    requires { ⌜ (k < u .hours) × (Slotted u l w) × (Layer u k (now row) (now side)) × (Saved u l w (suc k) (now work)) ⌝ }
+    requires { ⌜ (k < u .hours) × (Slotted u l w) × (Layer u k (now row) (now side))
+        × (Saved u l w (suc k) (now work)) ⌝ }
     ensures { λ _. ⌜ Saved u l w k (now (work .exit)) ⌝ }
 {
     if k % l == 0 {

@@ -1,4 +1,5 @@
--- The row before a stop is thought of: the hour's end is added, the largest of each window is taken, the hour's start is added.
+-- The row before a stop is thought of: the hour's end is added, the largest of each window is taken, the hour's start
+-- is added.
 -- Assumes nothing.
 use mathlib.Core.Path.{_≡_, refl, sym, ap, _∙_, subst}
 use mathlib.Core.Option.{Option, none, some}
@@ -46,7 +47,8 @@ top-index u i n e = omega arith
 reach-index : (u : Unit) (i n : ℕ) → u .minimum + n ≡ u .capacity + 1
     → min (i + u .rampup + 1) n - (i - u .rampdown) ≡ reach u (u .minimum + i)
 unfolding reach
-reach-index u i n e = rw (← top-index u i n e, ← low-index u i) (less (u .minimum) (min (i + u .rampup + 1) n) (i - u .rampdown))
+reach-index u i n e =
+    rw (← top-index u i n e, ← low-index u i) (less (u .minimum) (min (i + u .rampup + 1) n) (i - u .rampdown))
   where
     less : (m a b : ℕ) → a - b ≡ m + a - (m + b)
     less m a b = omega arith
@@ -129,61 +131,65 @@ module _ (u : Unit) (fit : Fit u) (k j : ℕ) where
       }
 
   module _ (n : ℕ) (size : u .minimum + n ≡ u .capacity + 1) (xs ys : List ℤ) (row : Row u (suc k) (j - 1) xs)
-      (w : Written xs ys 0 n (λ i. plus (sloped (margin u k *ℤ pos (u .minimum)) (margin u k) i) (getD xs i (pos 0)))) where
-    cell-later : (i : ℕ) → i < n → getD ys i (pos 0) ≡ coded (later (u .minimum + i))
-    unfolding later
-    cell-later i h =
-        let p = u .minimum + i in
-        written-in w i (omega arith) h
-        ∙ rw (tail-sloped u k i, row .at i (omega arith))
-        (coded-add (tail u k p) (2 ^ 42) (omega arith) (worth-size u fit (suc k) (Run p (j - 1))))
-
-    -- the largest of a window
-    over-later : (i : ℕ) → i < n → largest missing (amountAt ys n) (i - u .rampdown) (i + u .rampup + 1)
-        ≡ coded ((span later (lowest u (u .minimum + i)) (reach u (u .minimum + i))) .worth)
-    over-later i h =
-        let p = u .minimum + i in
-        let a : u .minimum + (i - u .rampdown) ≡ lowest u p = low-index u i in
-        let top : lowest u p + reach u p ≤ suc (u .capacity) = reach-le u fit p (omega arith) (omega arith) in
-        largest-clip missing (amountAt ys n) n (i - u .rampdown) (i + u .rampup + 1) (λ c l. amountAt-past ys n c l) (omega arith)
-        ∙ ap (over larger missing (amountAt ys n) (i - u .rampdown)) (reach-index u i n size)
-        ∙ over-shift (amountAt ys n) (λ q. coded (later q)) (i - u .rampdown) (lowest u p) (reach u p)
-        (λ t l. amountAt-in ys n (i - u .rampdown + t) (inside p t a top l)
-        ∙ cell-later (i - u .rampdown + t) (inside p t a top l) ∙ ap (λ q. coded (later q)) (same t a))
-        ∙ sym (span-coded (2 ^ 43) (omega arith) later (lowest u p) (reach u p) (λ q x y. later-size q (omega arith)))
-      where
-        inside : (p t : ℕ) → u .minimum + (i - u .rampdown) ≡ lowest u p → lowest u p + reach u p ≤ suc (u .capacity)
-            → t < reach u p → i - u .rampdown + t < n
-        inside p t a b c = omega arith
-
-        same : (t : ℕ) {q : ℕ} → u .minimum + (i - u .rampdown) ≡ q → u .minimum + (i - u .rampdown + t) ≡ q + t
-        same t a = omega arith
-
-    module _ (zs : List ℤ) (v : Windowed ys zs n (u .rampdown) (u .rampup)) where
-      reach-size : (i : ℕ) → i < n
-          → Bounded (2 ^ 43) ((span later (lowest u (u .minimum + i)) (reach u (u .minimum + i))) .worth)
-      reach-size i h =
+      (w : Written xs ys 0 n (λ i. plus (sloped (margin u k *ℤ pos (u .minimum)) (margin u k) i) (getD xs i (pos 0))))
+    where
+      cell-later : (i : ℕ) → i < n → getD ys i (pos 0) ≡ coded (later (u .minimum + i))
+      unfolding later
+      cell-later i h =
           let p = u .minimum + i in
-          span-size (2 ^ 43) later (lowest u p) (reach u p)
-          (λ q x y. later-size q (omega (arith, reach-le u fit p (omega arith) (omega arith))))
+          written-in w i (omega arith) h
+          ∙ rw (tail-sloped u k i, row .at i (omega arith))
+          (coded-add (tail u k p) (2 ^ 42) (omega arith) (worth-size u fit (suc k) (Run p (j - 1))))
 
-      pub window-small : Small zs n
-      window-small =
-          record { small = λ i h. rw (v .at i h, over-later i h) (coded-abs (2 ^ 43) (omega arith) (reach-size i h)) }
-
-      pub open-line : (us : List ℤ) → (getD (u .orders) k 0 ≡ 2 → ⊥)
-          → Written zs us 0 n
-          (λ i. plus (sloped (margin u k *ℤ pos (u .minimum) -ℤ pos (u .holds)) (margin u k) i) (getD zs i (pos 0)))
-          → Open u k j us
-      unfolding online
-      open-line us e q = record { long = q .long ∙ v .long ∙ w .long ∙ row .long; at = λ i h. go i (omega arith) }
+      -- the largest of a window
+      over-later : (i : ℕ) → i < n → largest missing (amountAt ys n) (i - u .rampdown) (i + u .rampup + 1)
+          ≡ coded ((span later (lowest u (u .minimum + i)) (reach u (u .minimum + i))) .worth)
+      over-later i h =
+          let p = u .minimum + i in
+          let a : u .minimum + (i - u .rampdown) ≡ lowest u p = low-index u i in
+          let top : lowest u p + reach u p ≤ suc (u .capacity) = reach-le u fit p (omega arith) (omega arith) in
+          largest-clip missing (amountAt ys n) n (i - u .rampdown) (i + u .rampup + 1) (λ c l. amountAt-past ys n c l)
+          (omega arith)
+          ∙ ap (over larger missing (amountAt ys n) (i - u .rampdown)) (reach-index u i n size)
+          ∙ over-shift (amountAt ys n) (λ q. coded (later q)) (i - u .rampdown) (lowest u p) (reach u p)
+          (λ t l. amountAt-in ys n (i - u .rampdown + t) (inside p t a top l)
+          ∙ cell-later (i - u .rampdown + t) (inside p t a top l) ∙ ap (λ q. coded (later q)) (same t a))
+          ∙ sym (span-coded (2 ^ 43) (omega arith) later (lowest u p) (reach u p) (λ q x y. later-size q (omega arith)))
         where
-          go : (i : ℕ) → i < n → getD us i (pos 0)
-              ≡ coded ((span (onward u k (u .minimum + i) j) (lowest u (u .minimum + i)) (reach u (u .minimum + i))) .worth)
-          go i h =
-              let p = u .minimum + i in
-              let o : online u k ≡ true = rw (ne-eqb (getD (u .orders) k 0) 2 e) in
-              let on = rw o at (open-worth p (omega arith)) in
-              written-in q i (omega arith) h
-              ∙ rw (head-sloped u k i, v .at i h, over-later i h) (coded-add (head u k p) (2 ^ 43) (omega arith) (reach-size i h))
-              ∙ ap coded (sym on)
+          inside : (p t : ℕ) → u .minimum + (i - u .rampdown) ≡ lowest u p → lowest u p + reach u p ≤ suc (u .capacity)
+              → t < reach u p → i - u .rampdown + t < n
+          inside p t a b c = omega arith
+
+          same : (t : ℕ) {q : ℕ} → u .minimum + (i - u .rampdown) ≡ q → u .minimum + (i - u .rampdown + t) ≡ q + t
+          same t a = omega arith
+
+      module _ (zs : List ℤ) (v : Windowed ys zs n (u .rampdown) (u .rampup)) where
+        reach-size : (i : ℕ) → i < n
+            → Bounded (2 ^ 43) ((span later (lowest u (u .minimum + i)) (reach u (u .minimum + i))) .worth)
+        reach-size i h =
+            let p = u .minimum + i in
+            span-size (2 ^ 43) later (lowest u p) (reach u p)
+            (λ q x y. later-size q (omega (arith, reach-le u fit p (omega arith) (omega arith))))
+
+        pub window-small : Small zs n
+        window-small =
+            record { small = λ i h. rw (v .at i h, over-later i h) (coded-abs (2 ^ 43) (omega arith) (reach-size i h)) }
+
+        pub open-line : (us : List ℤ) → (getD (u .orders) k 0 ≡ 2 → ⊥)
+            → Written zs us 0 n
+            (λ i. plus (sloped (margin u k *ℤ pos (u .minimum) -ℤ pos (u .holds)) (margin u k) i) (getD zs i (pos 0)))
+            → Open u k j us
+        unfolding online
+        open-line us e q = record { long = q .long ∙ v .long ∙ w .long ∙ row .long; at = λ i h. go i (omega arith) }
+          where
+            go : (i : ℕ) → i < n → getD us i (pos 0)
+                ≡ coded ((span (onward u k (u .minimum + i) j) (lowest u (u .minimum + i))
+                (reach u (u .minimum + i))) .worth)
+            go i h =
+                let p = u .minimum + i in
+                let o : online u k ≡ true = rw (ne-eqb (getD (u .orders) k 0) 2 e) in
+                let on = rw o at (open-worth p (omega arith)) in
+                written-in q i (omega arith) h
+                ∙ rw (head-sloped u k i, v .at i h, over-later i h)
+                (coded-add (head u k p) (2 ^ 43) (omega arith) (reach-size i h))
+                ∙ ap coded (sym on)

@@ -1,6 +1,7 @@
-// The row of an hour, in place of the row of the hour after it: what the end of the hour earns is added to each cell, the largest over each
-// cell's window is taken, what its start earns is added; then the stop, at the minimum output. The definitions are those of specs/Open and of
-// cells' specs/Table. Each function is called by crates of this repository, which keep what it asks for.
+// The row of an hour, in place of the row of the hour after it: what the end of the hour earns is added to each cell,
+// the largest over each cell's window is taken, what its start earns is added; then the stop, at the minimum output.
+// The definitions are those of specs/Open and of cells' specs/Table. Each function is called by crates of this
+// repository, which keep what it asks for.
 use cells::ROW;
 use machine::Unit;
 use model::HalfMills;
@@ -13,7 +14,8 @@ ghost use Rattle.machine.specs.Fit.{Fit};
 ghost use Rattle.cells.specs.Table.{Row, mostLock};
 ghost use Rattle.rows.specs.Open.{Open};
 
-// The row of hour k before a stop is thought of, for whatever number of hours there are to go before one may begin; j is one such number.
+// The row of hour k before a stop is thought of, for whatever number of hours there are to go before one may begin; j
+// is one such number.
 pub fn open_row(u: Unit, k: usize, j: usize, row: &mut [i64; ROW])
     requires { ⌜ Fit u ⌝ }
     requires { ⌜ (k < u .hours) × (Row u (suc k) (j - 1) (now row)) ⌝ }
@@ -57,7 +59,8 @@ pub fn row_step(u: Unit, k: usize, row: &mut [i64; ROW], v: HalfMills)
     leave(u, k, row, v);
 }
 
-// The row of hour k in place of the row of the hour after it, where no stop may begin; j hours to go then is one more now.
+// The row of hour k in place of the row of the hour after it, where no stop may begin; j hours to go then is one more
+// now.
 pub fn lock_step(u: Unit, k: usize, j: usize, row: &mut [i64; ROW])
     requires { ⌜ Fit u ⌝ }
     requires { ⌜ (k < u .hours) × (j ≤ mostLock) × (Row u (suc k) j (now row)) ⌝ }

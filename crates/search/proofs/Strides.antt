@@ -1,7 +1,8 @@
 -- The smallest stride for which the working numbers have room. Assumes nothing.
 use mathlib.Core.Path.{_≡_, refl, sym, ap, _∙_}
 use Prim.Native.Nat.{ℕ, zero, suc, _+_, _-_, _*_, _/_, _%_, _≤_, _<_}
-use native.Mathlib.Nat.{div-add-mod', mod-lt, mul-le-mul-right, suc-mul, mul-suc, mul-comm, le-div-iff-mul-le, div-le-of-le-mul, lt-of-mul-lt-mul-right}
+use native.Mathlib.Nat.{div-add-mod', mod-lt, mul-le-mul-right, suc-mul, mul-suc, mul-comm, le-div-iff-mul-le}
+use native.Mathlib.Nat.{div-le-of-le-mul, lt-of-mul-lt-mul-right}
 use native.Mathlib.Omega.{arith}
 use Rattle.model.specs.Limits.{workLength}
 use Rattle.machine.specs.declared.Unit.{Unit}

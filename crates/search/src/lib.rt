@@ -1,6 +1,7 @@
-// The best day of a unit from a state: the layers back from the end of the day, of which every l-th is kept in the working numbers, and then
-// the plan forward, hour by hour, each hour's choice being made from the layer after it, which is made again from the next that is kept. The definitions
-// are those of cells' specs/Table and layers' specs/Saved. Each function is called by crates of this repository, which keep what it asks for.
+// The best day of a unit from a state: the layers back from the end of the day, of which every l-th is kept in the
+// working numbers, and then the plan forward, hour by hour, each hour's choice being made from the layer after it,
+// which is made again from the next that is kept. The definitions are those of cells' specs/Table and layers'
+// specs/Saved. Each function is called by crates of this repository, which keep what it asks for.
 use cells::ENTRIES;
 use cells::Pick;
 use cells::ROW;
@@ -137,8 +138,8 @@ pub fn stride_of(u: Unit, w: usize) -> usize
     (u.hours + m - 1) / m
 }
 
-// The best day from a state: what it earns, and its outputs, in the first hours of the lent list; missing, and no output, where no list
-// keeps the rules. The working numbers hold anything after.
+// The best day from a state: what it earns, and its outputs, in the first hours of the lent list; missing, and no
+// output, where no list keeps the rules. The working numbers hold anything after.
 pub fn search(u: Unit, s: State, work: &mut [i64], outputs: &mut [u16]) -> HalfMills
     requires { ⌜ Fit u ⌝ }
     requires { ⌜ (Proper u s) × (u .hours ≤ length (now outputs)) × (workLength ≤ length (now work)) ⌝ }

@@ -67,13 +67,15 @@ module _ (u : Unit) (fit : Fit u) (k : ℕ) (h : k < u .hours) where
       (coded (worth u (suc k) (fallen u (i + 1)))) ≡ coded (worth u k (Fall (fallsAt + i - fallsAt)))
   fall-worth i =
       let e : i ≡ fallsAt + i - fallsAt = omega arith in
-      forced _ _ (fallen u (i + 1)) (Fall i) (sunk-sum u fit (getD (u .pd) i 0) (i + 1) (pd-small u fit i) (omega arith))
+      forced _ _ (fallen u (i + 1)) (Fall i) (sunk-sum u fit (getD (u .pd) i 0) (i + 1) (pd-small u fit i)
+      (omega arith))
       (chosen-fall u fit k i)
       ∙ ap (λ n. coded (worth u k (Fall n))) e
 
 module _ (u : Unit) (fit : Fit u) (k : ℕ) where
   -- the three kinds, written one after the other
-  pub side-of : {xs ys zs us : List ℤ} → length xs ≡ sideLength → Written xs ys 1 (u .mindown + 1) (λ c. coded (worth u k (Off c)))
+  pub side-of : {xs ys zs us : List ℤ} → length xs ≡ sideLength → Written xs ys 1 (u .mindown + 1)
+      (λ c. coded (worth u k (Off c)))
       → Written ys zs risesAt (risesAt + (u .rises - 1)) (λ c. coded (worth u k (Rise (c - risesAt))))
       → Written zs us fallsAt (fallsAt + u .falls) (λ c. coded (worth u k (Fall (c - fallsAt)))) → Side u k us
   side-of l a b c =
@@ -83,7 +85,8 @@ module _ (u : Unit) (fit : Fit u) (k : ℕ) where
             written-below c d (omega (arith, fit .mindown-le)) ∙ written-below b d (omega (arith, fit .mindown-le))
             ∙ written-in a d m (omega arith);
         rises = λ i m.
-            written-below c (risesAt + i) (omega (arith, fit .rises-le)) ∙ written-in b (risesAt + i) (omega arith) (omega arith)
+            written-below c (risesAt + i) (omega (arith, fit .rises-le)) ∙ written-in b (risesAt + i) (omega arith)
+            (omega arith)
             ∙ ap (λ n. coded (worth u k (Rise n))) (omega arith);
         falls = λ i m.
             written-in c (fallsAt + i) (omega arith) (omega arith) ∙ ap (λ n. coded (worth u k (Fall n))) (omega arith);

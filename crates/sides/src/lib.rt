@@ -1,6 +1,6 @@
-// The side of a layer, an hour back: what a unit is worth off-line and in its sequences. Each loop goes over the cells of one kind, with the
-// terms of the hour and a few numbers of the unit. The definitions are those of cells' specs/Table. Each function is called by crates of
-// this repository, which keep what it asks for.
+// The side of a layer, an hour back: what a unit is worth off-line and in its sequences. Each loop goes over the cells
+// of one kind, with the terms of the hour and a few numbers of the unit. The definitions are those of cells'
+// specs/Table. Each function is called by crates of this repository, which keep what it asks for.
 use cells::FALLS;
 use cells::RISES;
 use cells::SIDE;
@@ -19,7 +19,8 @@ ghost use Rattle.cells.specs.Table.{Side, entry, sideLength, risesAt, fallsAt};
 // Off-line: stay, and at the minimum down time start too.
 pub fn step_offs(u: Unit, k: usize, from: &[i64; SIDE], e: HalfMills, to: &mut [i64; SIDE])
     requires { ⌜ Fit u ⌝ }
-    requires { ⌜ (k < u .hours) × (Side u (suc k) (now from)) × (e .0 ≡ entry u (suc k)) × (length (now to) ≡ sideLength) ⌝ }
+    requires { ⌜ (k < u .hours) × (Side u (suc k) (now from)) × (e .0 ≡ entry u (suc k)) × (length (now to)
+        ≡ sideLength) ⌝ }
     ensures { λ _. ⌜ Written (now (to .entry)) (now (to .exit)) 1 (u .mindown + 1) (λ c. coded (worth u k (Off c))) ⌝ }
 {
     let t = cells::terms_of(u, k);
@@ -37,7 +38,8 @@ pub fn step_offs(u: Unit, k: usize, from: &[i64; SIDE], e: HalfMills, to: &mut [
 // In a start sequence.
 pub fn step_rises(u: Unit, k: usize, from: &[i64; SIDE], e: HalfMills, to: &mut [i64; SIDE])
     requires { ⌜ Fit u ⌝ }
-    requires { ⌜ (k < u .hours) × (Side u (suc k) (now from)) × (e .0 ≡ entry u (suc k)) × (length (now to) ≡ sideLength) ⌝ }
+    requires { ⌜ (k < u .hours) × (Side u (suc k) (now from)) × (e .0 ≡ entry u (suc k)) × (length (now to)
+        ≡ sideLength) ⌝ }
     ensures { λ _. ⌜ Written (now (to .entry)) (now (to .exit)) risesAt (risesAt + (u .rises - 1))
         (λ c. coded (worth u k (Rise (c - risesAt)))) ⌝ }
 {

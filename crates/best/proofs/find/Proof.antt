@@ -33,7 +33,8 @@ search-first-requires c κs =
     let proper = opening-proper (s .args .case) (s .pre .0) in (
       subst Fit (sym (u .0)) fit,
       (
-        subst (λ x. Proper x (c .before .before .opening-of .result)) (sym (u .0)) (subst (Proper (unitOf (s .args .case))) (sym o) proper),
+        subst (λ x. Proper x (c .before .before .opening-of .result)) (sym (u .0))
+            (subst (Proper (unitOf (s .args .case))) (sym o) proper),
         (omega (arith, ap (λ x. x .hours) (u .0)), omega arith),
       ),
     )
@@ -60,9 +61,11 @@ module _ (c : tie.After-search-first) where
       (c .search-first .result .0)
   found =
       let s = c .before .before .before .before .before .before in
-      let part : Unit → State → Type 0 = λ u o. Found u o (s .args .outputs .now) (c .search-first .last .1 .1 .1 .0) (c .search-first .result .0) in
+      let part : Unit → State → Type 0 =
+      λ u o. Found u o (s .args .outputs .now) (c .search-first .last .1 .1 .1 .0) (c .search-first .result .0) in
       subst (λ u. part u (openingOf (s .args .case))) (c .before .before .before .before .unit-of .ensures .0)
-      (subst (part (c .before .before .before .before .unit-of .result)) (c .before .before .before .opening-of .ensures) (c .search-first .ensures .0))
+      (subst (part (c .before .before .before .before .unit-of .result))
+      (c .before .before .before .opening-of .ensures) (c .search-first .ensures .0))
 
   fit : Fit (unitOf (c .before .before .before .before .before .before .args .case))
   fit =
@@ -72,7 +75,8 @@ module _ (c : tie.After-search-first) where
 returns : tie.Need-returns
 returns c =
     let a = c .before .before .before .before .before .before .before .before in
-    let s = c .before .before .before .before .before .before .before .before .before .before .before .before .before .before in
+    let s =
+    c .before .before .before .before .before .before .before .before .before .before .before .before .before .before in
     let work = s .args .work .now in
     let outputs = s .args .outputs .now in
     let absent = sym (c .before .absent .ensures) ∙ c .if1 .taken in
@@ -94,7 +98,8 @@ same-length-4 c = search needs
 returns-2 : tie.Need-returns-2
 returns-2 c =
     let a = c .before .before .before .before .before .before .before .before in
-    let s = c .before .before .before .before .before .before .before .before .before .before .before .before .before .before in
+    let s =
+    c .before .before .before .before .before .before .before .before .before .before .before .before .before .before in
     let work = s .args .work .now in
     let outputs = s .args .outputs .now in
     let present = sym (c .before .absent .ensures) ∙ c .if1 .left in

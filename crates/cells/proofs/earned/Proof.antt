@@ -25,20 +25,36 @@ charged-requires c κs = search needs
 
 amount-requires : tie.Need-amount-requires
 amount-requires c κs =
-    omega (arith, c .charged .ensures, chargeBy-le (c .before .before .pre .0) (c .before .before .args .q) (c .before .before .args .p))
+    omega (
+      arith,
+      c .charged .ensures,
+      chargeBy-le (c .before .before .pre .0) (c .before .before .args .q)
+          (c .before .before .args .p),
+    )
 
 difference-requires : tie.Need-difference-requires
 difference-requires c κs =
     let s = c .before .before .before in
-    let g : natAbs (c .before .before .multiple .result .0) ≤ 2 ^ 24 * 2 ^ 11 = rw (c .before .before .multiple .ensures) (product-abs (s .pre .0) _ (s .pre .1)) in
+    let g : natAbs (c .before .before .multiple .result .0) ≤ 2 ^ 24 * 2 ^ 11 =
+    rw (c .before .before .multiple .ensures) (product-abs (s .pre .0) _ (s .pre .1)) in
     let h : natAbs (c .amount .result .0) ≤ 2 ^ 29 =
-    rw (c .amount .ensures) (omega (arith, c .before .charged .ensures, chargeBy-le (s .pre .0) (s .args .q) (s .args .p))) in
+    rw (c .amount .ensures) (omega (
+      arith,
+      c .before .charged .ensures,
+      chargeBy-le (s .pre .0) (s .args .q)
+          (s .args .p),
+    )) in
     omega arith
 
 returns : tie.Need-returns
 unfolding earnBy
 returns c =
-    rw (c .difference .ensures, c .before .before .before .multiple .ensures, c .before .amount .ensures, c .before .before .charged .ensures) refl
+    rw (
+      c .difference .ensures,
+      c .before .before .before .multiple .ensures,
+      c .before .amount .ensures,
+      c .before .before .charged .ensures,
+    ) refl
 
 pub earned-spec : {M : Type 1} → statement M
 earned-spec =

@@ -16,8 +16,10 @@ earned-requires c κs = search needs
 
 more-requires : tie.Need-more-requires
 more-requires c κs =
-    let s = c .before .before .before in
-    (rw (c .earned .ensures) (omega (arith, earnBy-abs (s .pre .0) (s .args .q) (s .args .p) (s .pre .1 .0))), s .pre .1 .1)
+    let s = c .before .before .before in (
+      rw (c .earned .ensures) (omega (arith, earnBy-abs (s .pre .0) (s .args .q) (s .args .p) (s .pre .1 .0))),
+      s .pre .1 .1,
+    )
 
 none-requires : tie.Need-none-requires
 none-requires c κs = search needs
@@ -25,7 +27,8 @@ none-requires c κs = search needs
 returns : tie.Need-returns
 unfolding broughtBy
 returns c =
-    simp (sym (c .before .before .before .allowed .ensures) ∙ c .before .before .if1 .taken) (c .more .ensures ∙ simp (c .before .earned .ensures))
+    simp (sym (c .before .before .before .allowed .ensures) ∙ c .before .before .if1 .taken)
+    (c .more .ensures ∙ simp (c .before .earned .ensures))
 
 returns-2 : tie.Need-returns-2
 unfolding broughtBy

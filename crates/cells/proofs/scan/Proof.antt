@@ -1,4 +1,5 @@
--- `cells::scan` meets its contract. The invariant: `best` is the best of the outputs before p, and t the amount for p. Assumes nothing.
+-- `cells::scan` meets its contract. The invariant: `best` is the best of the outputs before p, and t the amount for p.
+-- Assumes nothing.
 use borrow.Author.Needs.{needs}
 use native.Mathlib.Omega.{arith}
 use mathlib.Core.Path.{_≡_, refl, ap, _∙_}
@@ -48,8 +49,12 @@ value-at-requires c κs = omega (arith, c .before .before .before .pre .0)
 
 more-requires : tie.Need-more-requires Inv-loop μ-loop
 more-requires c κs =
-    let l = (c .before .before) in
-    (omega (arith, amount l), rw (c .value-at .ensures) (c .before .before .before .before .pre .0 .4 .small (l .loop .p - c .before .before .before .before .args .lo) (omega (arith, c .before .before .before .before .pre .0))))
+    let l = (c .before .before) in (
+      omega (arith, amount l),
+      rw (c .value-at .ensures) (c .before .before .before .before .pre .0 .4 .small
+          (l .loop .p - c .before .before .before .before .args .lo)
+          (omega (arith, c .before .before .before .before .pre .0))),
+    )
 
 lone-requires : tie.Need-lone-requires Inv-loop μ-loop
 lone-requires c κs = search needs
@@ -59,7 +64,11 @@ better-requires c κs = search needs
 
 sum-requires : tie.Need-sum-requires Inv-loop μ-loop
 sum-requires c κs =
-    omega (arith, amount (c .before .before .before .before .before), c .before .before .before .before .before .before .before .pre .1 .1)
+    omega (
+      arith,
+      amount (c .before .before .before .before .before),
+      c .before .before .before .before .before .before .before .pre .1 .1,
+    )
 
 add-p : tie.Need-add-p Inv-loop μ-loop
 add-p c = omega arith
@@ -78,7 +87,13 @@ loop-again c =
       c .sum .ensures ∙ ap (λ (x : ℤ). x +ℤ s .args .slope .0) (l .inv .2)
           ∙ sloped-next (s .args .first .0) (s .args .slope .0) (l .p - a)
           ∙ ap (λ (n : ℕ). sloped (s .args .first .0) (s .args .slope .0) n) e,
-      c .before .better .ensures ∙ rw (c .before .before .lone .ensures, c .before .before .before .more .ensures, c .before .before .before .before .value-at .ensures, l .inv .3, l .inv .2)
+      c .before .better .ensures ∙ rw (
+        c .before .before .lone .ensures,
+        c .before .before .before .more .ensures,
+        c .before .before .before .before .value-at .ensures,
+        l .inv .3,
+        l .inv .2,
+      )
           (scanned-step _ _ a _ _ (l .p) (l .inv .0)),
     )
 

@@ -1,4 +1,5 @@
--- `choices::across` meets its contract: no output where the hour is ordered off-line, else the scan of the window. Assumes nothing.
+-- `choices::across` meets its contract: no output where the hour is ordered off-line, else the scan of the window.
+-- Assumes nothing.
 use borrow.Author.Needs.{needs}
 use native.Mathlib.Omega.{arith}
 use mathlib.Core.Path.{_∙_}
@@ -41,7 +42,14 @@ earned-requires : tie.Need-earned-requires
 earned-requires c κs =
     let s = c .before .before .before .before .before .before .before in (
       rw (c .before .before .before .before .before .before .terms-of .ensures) (fair-of (s .pre .0) (s .args .k)),
-      omega (arith, c .before .before .most .ensures, c .before .before .before .less .ensures, s .pre .1 .1, s .pre .1 .2, s .pre .0 .capacity-le),
+      omega (
+        arith,
+        c .before .before .most .ensures,
+        c .before .before .before .less .ensures,
+        s .pre .1 .1,
+        s .pre .1 .2,
+        s .pre .0 .capacity-le,
+      ),
     )
 
 scan-requires : tie.Need-scan-requires
@@ -52,7 +60,8 @@ scan-requires c κs =
     let e = c .before .before .least .ensures in
     let l = c .before .before .before .before .most .ensures in
     let m = c .before .before .before .before .before .less .ensures in
-    let t = rw (c .before .before .before .before .before .before .before .before .terms-of .ensures) at (c .before .earned .ensures) in (
+    let t = rw (c .before .before .before .before .before .before .before .before .terms-of .ensures)
+    at (c .before .earned .ensures) in (
       (
         omega arith,
         omega (arith, s .pre .1 .1, s .pre .1 .2),
@@ -62,7 +71,8 @@ scan-requires c κs =
       ),
       (
         rw t (earnBy-abs (fair-of f (a .k)) (a .r) _ (omega (arith, s .pre .1 .1, s .pre .1 .2, f .capacity-le))),
-        rw (c .before .before .before .before .before .before .before .before .terms-of .ensures) (f .margins-le (a .k)),
+        rw (c .before .before .before .before .before .before .before .before .terms-of .ensures)
+            (f .margins-le (a .k)),
       ),
     )
 
@@ -74,11 +84,13 @@ returns-2 c =
     let e = c .before .before .before .least .ensures in
     let l = c .before .before .before .before .before .most .ensures in
     let m = c .before .before .before .before .before .before .less .ensures in
-    let t = rw (c .before .before .before .before .before .before .before .before .before .terms-of .ensures) at (c .before .before .earned .ensures) in
+    let t = rw (c .before .before .before .before .before .before .before .before .before .terms-of .ensures)
+    at (c .before .before .earned .ensures) in
     c .scan .ensures
     ∙ rw (c .before .before .before .before .before .before .before .before .before .terms-of .ensures)
     (across-scanned (a .u) (s .pre .0) (a .k) (a .r) (a .j) (s .pre .1 .1) (s .pre .1 .2) (s .pre .1 .3)
-    (rw (c .before .before .before .before .before .before .before .before .before .terms-of .ensures) at (c .before .before .before .before .before .before .before .if1 .left)) _ _ _ (omega arith) (omega arith) t)
+    (rw (c .before .before .before .before .before .before .before .before .before .terms-of .ensures)
+    at (c .before .before .before .before .before .before .before .if1 .left)) _ _ _ (omega arith) (omega arith) t)
 
 pub across-spec : {M : Type 1} → statement M
 across-spec =

@@ -61,15 +61,22 @@ choose-run-requires : tie.Need-choose-run-requires
 choose-run-requires c κs =
     let s = c .before .before .before .before .before in
     let p = subst (Proper (s .args .u)) (c .before .before .before .s3 .given .1) (s .pre .1 .1 .0) in
-    let l = looked s (c .before .before .before .s3 .given .1) in
-    (s .pre .0, ((soon s, p .0, p .1, rw (c .before .if1 .taken) at (l .row)), λ z. c .fallen-worth .ensures (s .args .u) (suc (s .args .k)) refl (s .pre .0 .mindown-pos) (l .side (omega arith))))
+    let l = looked s (c .before .before .before .s3 .given .1) in (
+      s .pre .0,
+      (
+        (soon s, p .0, p .1, rw (c .before .if1 .taken) at (l .row)),
+        λ z. c .fallen-worth .ensures
+            (s .args .u) (suc (s .args .k)) refl (s .pre .0 .mindown-pos) (l .side (omega arith)),
+      ),
+    )
 
 returns : tie.Need-returns
 returns c =
     let s = c .before .before .before .before .before .before in
     let g = c .before .before .before .before .s3 .given in
     c .choose-run .ensures
-    ∙ ap (λ (n : ℕ). pickOf (choiceAt (machine (s .args .u)) (s .args .k) (Run (g .0 .0) n))) (sym (c .before .before .if1 .taken))
+    ∙ ap (λ (n : ℕ). pickOf (choiceAt (machine (s .args .u)) (s .args .k) (Run (g .0 .0) n)))
+    (sym (c .before .before .if1 .taken))
     ∙ ap (chosen s) (sym (g .1))
 
 choose-run-requires-2 : tie.Need-choose-run-requires-2
@@ -99,7 +106,8 @@ returns-3 c =
 
 returns-4 : tie.Need-returns-4
 returns-4 c =
-    c .choose-run2 .ensures ∙ ap (chosen (c .before .before .before .before .before)) (sym (c .before .before .before .s3 .given .1))
+    c .choose-run2 .ensures ∙ ap (chosen (c .before .before .before .before .before))
+    (sym (c .before .before .before .s3 .given .1))
 
 returns-5 : tie.Need-returns-5
 returns-5 c =

@@ -57,7 +57,12 @@ returns c =
     let a = s .args in
     let v = c .before .before .fallen-worth .ensures (a .u) (suc (a .k)) refl (s .pre .0 .mindown-pos) (s .pre .1 .2) in
     c .lone .ensures
-    ∙ rw (c .before .offered .ensures, v, c .before .before .before .sunk-at .ensures, c .before .before .before .before .before .terms-of .ensures) (chosen-fall (a .u) (s .pre .0) (a .k) (a .i))
+    ∙ rw (
+      c .before .offered .ensures,
+      v,
+      c .before .before .before .sunk-at .ensures,
+      c .before .before .before .before .before .terms-of .ensures,
+    ) (chosen-fall (a .u) (s .pre .0) (a .k) (a .i))
 
 pub choose-fall-spec : {M : Type 1} → statement M
 choose-fall-spec =

@@ -31,8 +31,11 @@ add-risen-worth : tie.Need-add-risen-worth
 add-risen-worth c = search needs
 
 risen-worth-requires : tie.Need-risen-worth-requires
-risen-worth-requires c κs =
-    (c .before .before .before .pre .1 .1, c .before .before .before .pre .0 .rises-le, c .before .before .before .pre .1 .2 .long)
+risen-worth-requires c κs = (
+  c .before .before .before .pre .1 .1,
+  c .before .before .before .pre .0 .rises-le,
+  c .before .before .before .pre .1 .2 .long,
+)
 
 offered-requires : tie.Need-offered-requires
 offered-requires c κs =
@@ -54,7 +57,8 @@ returns c =
     let s = c .before .before .before .before .before .before in
     let a = s .args in
     let v = c .before .before .risen-worth .ensures (a .t1) (suc (a .k)) refl (s .pre .1 .2) (s .pre .1 .3) in
-    c .lone .ensures ∙ rw (c .before .offered .ensures, v, c .before .before .before .before .before .terms-of .ensures) (chosen-rise (a .t1) (s .pre .0) (a .k) (a .i))
+    c .lone .ensures ∙ rw (c .before .offered .ensures, v, c .before .before .before .before .before .terms-of .ensures)
+    (chosen-rise (a .t1) (s .pre .0) (a .k) (a .i))
 
 pub choose-rise-spec : {M : Type 1} → statement M
 choose-rise-spec =

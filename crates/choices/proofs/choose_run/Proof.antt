@@ -46,8 +46,17 @@ returns c =
     let a = s .args in
     let e = s .pre .1 .1 (c .before .before .before .before .before .before .before .before .if1 .taken) in
     c .better .ensures
-    ∙ rw (c .before .lone .ensures, c .before .before .offered .ensures, e, c .before .before .before .before .sunk-at .ensures, c .before .before .before .before .before .before .before .before .before .across .ensures, c .before .before .before .terms-of .ensures)
-    (chosen-leave (a .u) (s .pre .0) (a .k) (a .r) (a .j) (s .pre .1 .0 .1) (s .pre .1 .0 .2) (c .before .before .before .before .before .before .before .before .if1 .taken) (c .before .before .before .before .before .before .if2 .taken))
+    ∙ rw (
+      c .before .lone .ensures,
+      c .before .before .offered .ensures,
+      e,
+      c .before .before .before .before .sunk-at .ensures,
+      c .before .before .before .before .before .before .before .before .before .across .ensures,
+      c .before .before .before .terms-of .ensures,
+    )
+    (chosen-leave (a .u) (s .pre .0) (a .k) (a .r) (a .j) (s .pre .1 .0 .1) (s .pre .1 .0 .2)
+    (c .before .before .before .before .before .before .before .before .if1 .taken)
+    (c .before .before .before .before .before .before .if2 .taken))
 
 returns-2 : tie.Need-returns-2
 unfolding leaves
@@ -64,7 +73,8 @@ returns-3 c =
     let s = c .before .before in
     let a = s .args in
     c .before .across .ensures
-    ∙ chosen-stay (a .u) (s .pre .0) (a .k) (a .r) (a .j) (s .pre .1 .0 .1) (s .pre .1 .0 .2) (simp (ne-eqb _ _ (c .if1 .left)))
+    ∙ chosen-stay (a .u) (s .pre .0) (a .k) (a .r) (a .j) (s .pre .1 .0 .1) (s .pre .1 .0 .2)
+    (simp (ne-eqb _ _ (c .if1 .left)))
 
 pub choose-run-spec : {M : Type 1} → statement M
 choose-run-spec =

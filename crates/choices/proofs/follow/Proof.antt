@@ -29,7 +29,8 @@ returns c =
     let s = c .before .before .before .before .before in
     let a = s .args in
     let g = c .before .before .before .s .given in
-    λ t m. ap Off (c .least .ensures) ∙ follow-stay (a .u) (g .0 .0) (a .q) t (c .before .if1 .taken) (subst (λ (x : State). move (a .u) x (a .q) ≡ some t) (g .1) m)
+    λ t m. ap Off (c .least .ensures) ∙ follow-stay (a .u) (g .0 .0) (a .q) t (c .before .if1 .taken)
+    (subst (λ (x : State). move (a .u) x (a .q) ≡ some t) (g .1) m)
 
 risen-at-requires : tie.Need-risen-at-requires
 risen-at-requires c κs = search needs
@@ -60,7 +61,8 @@ returns-2 c =
     let s = c .before .before .before .before .before .before in
     let a = s .args in
     let g = c .before .before .before .before .s3 .given in
-    λ t m. ap (Run (a .q)) (c .less .ensures) ∙ follow-run (a .u) (g .0 .0) (g .0 .1 .0) (a .q) t (c .before .if2 .taken) (subst (λ (x : State). move (a .u) x (a .q) ≡ some t) (g .1) m)
+    λ t m. ap (Run (a .q)) (c .less .ensures) ∙ follow-run (a .u) (g .0 .0) (g .0 .1 .0) (a .q) t
+    (c .before .if2 .taken) (subst (λ (x : State). move (a .u) x (a .q) ≡ some t) (g .1) m)
 
 fallen-at-requires : tie.Need-fallen-at-requires
 fallen-at-requires c κs = search needs
@@ -82,28 +84,32 @@ returns-3 c =
     let s = c .before .before .before .before .before in
     let a = s .args in
     let g = c .before .before .before .s .given in
-    λ t m. c .risen-at .ensures ∙ follow-start (a .u) (g .0 .0) (a .q) t (c .before .if1 .left) (subst (λ (x : State). move (a .u) x (a .q) ≡ some t) (g .1) m)
+    λ t m. c .risen-at .ensures ∙ follow-start (a .u) (g .0 .0) (a .q) t (c .before .if1 .left)
+    (subst (λ (x : State). move (a .u) x (a .q) ≡ some t) (g .1) m)
 
 returns-4 : tie.Need-returns-4
 returns-4 c =
     let s = c .before .before .before .before in
     let a = s .args in
     let g = c .before .before .s2 .given in
-    λ t m. c .risen-at2 .ensures ∙ follow-rise (a .u) (g .0 .0) (a .q) t (subst (λ (x : State). move (a .u) x (a .q) ≡ some t) (g .1) m)
+    λ t m. c .risen-at2 .ensures ∙ follow-rise (a .u) (g .0 .0) (a .q) t
+    (subst (λ (x : State). move (a .u) x (a .q) ≡ some t) (g .1) m)
 
 returns-5 : tie.Need-returns-5
 returns-5 c =
     let s = c .before .before .before .before .before .before in
     let a = s .args in
     let g = c .before .before .before .before .s3 .given in
-    λ t m. c .fallen-at .ensures ∙ follow-leave (a .u) (g .0 .0) (g .0 .1 .0) (a .q) t (c .before .if2 .left) (subst (λ (x : State). move (a .u) x (a .q) ≡ some t) (g .1) m)
+    λ t m. c .fallen-at .ensures ∙ follow-leave (a .u) (g .0 .0) (g .0 .1 .0) (a .q) t (c .before .if2 .left)
+    (subst (λ (x : State). move (a .u) x (a .q) ≡ some t) (g .1) m)
 
 returns-6 : tie.Need-returns-6
 returns-6 c =
     let s = c .before .before .before .before in
     let a = s .args in
     let g = c .before .before .s4 .given in
-    λ t m. c .fallen-at2 .ensures ∙ follow-fall (a .u) (g .0 .0) (a .q) t (subst (λ (x : State). move (a .u) x (a .q) ≡ some t) (g .1) m)
+    λ t m. c .fallen-at2 .ensures ∙ follow-fall (a .u) (g .0 .0) (a .q) t
+    (subst (λ (x : State). move (a .u) x (a .q) ≡ some t) (g .1) m)
 
 pub follow-spec : {M : Type 1} → statement M
 follow-spec =

@@ -26,8 +26,17 @@ mul-load-layer c = omega (arith, c .before .before .pre .1 .0 .1 .room _ (c .if1
 load-layer-requires : tie.Need-load-layer-requires
 load-layer-requires c κs =
     let s = c .before .before .before .before in
-    let r = s .pre .1 .0 .1 .room _ (c .before .before .if1 .taken) in
-    (s .pre .0, ((omega (arith, s .pre .1 .0 .2 .room, s .pre .1 .0 .1 .width), s .pre .1 .0 .2 .at _ (omega arith) (c .before .before .if1 .taken)), s .pre .1 .1))
+    let r = s .pre .1 .0 .1 .room _ (c .before .before .if1 .taken) in (
+      s .pre .0,
+      (
+        (
+          omega (arith, s .pre .1 .0 .2 .room, s .pre .1 .0 .1 .width),
+          s .pre .1 .0 .2 .at _ (omega arith)
+              (c .before .before .if1 .taken),
+        ),
+        s .pre .1 .1,
+      ),
+    )
 
 returns : tie.Need-returns
 returns c =

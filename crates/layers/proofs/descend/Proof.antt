@@ -18,7 +18,12 @@ loop-holds c = (c .pre .1 .0 .from, c .pre .1 .0 .to, c .pre .1 .0 .layer)
 
 value-at-requires : tie.Need-value-at-requires Inv-loop μ-loop
 value-at-requires c κs =
-    omega (arith, c .before .before .before .pre .1 .1 .long, c .before .before .before .pre .0 .hours-le, c .before .before .loop .inv .1)
+    omega (
+      arith,
+      c .before .before .before .pre .1 .1 .long,
+      c .before .before .before .pre .0 .hours-le,
+      c .before .before .loop .inv .1,
+    )
 
 sub-at : tie.Need-sub-at Inv-loop μ-loop
 sub-at c = omega arith

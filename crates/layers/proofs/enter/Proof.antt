@@ -14,14 +14,20 @@ entry-from-requires c κs =
 
 store-requires : tie.Need-store-requires
 store-requires c κs =
-    omega (arith, c .before .before .before .before .before .pre .1 .2 .long, c .before .before .before .before .before .pre .1 .0, c .before .before .before .before .before .pre .0 .hours-le)
+    omega (
+      arith,
+      c .before .before .before .before .before .pre .1 .2 .long,
+      c .before .before .before .before .before .pre .1 .0,
+      c .before .before .before .before .before .pre .0 .hours-le,
+    )
 
 returns : tie.Need-returns
 returns c =
     let s = c .before .before .before .before .before .before in
     let u = s .args .u in
     rw (c .store .ensures)
-    (entries-step u (s .args .k - u .lock) (omega (arith, s .pre .1 .0, s .pre .0 .hours-le)) (entries-at u (omega arith) (s .pre .1 .2))
+    (entries-step u (s .args .k - u .lock) (omega (arith, s .pre .1 .0, s .pre .0 .hours-le))
+    (entries-at u (omega arith) (s .pre .1 .2))
     (c .before .before .entry-from .ensures))
 
 returns-2 : tie.Need-returns-2

@@ -1,4 +1,5 @@
--- `layers::last_entries` meets its contract. The invariant: the row of i hours before the end, with any hours to go from i on, and the
+-- `layers::last_entries` meets its contract. The invariant: the row of i hours before the end, with any hours to go
+-- from i on, and the
 -- entries from there on. Assumes nothing.
 use borrow.Author.Needs.{needs}
 use native.Mathlib.Omega.{arith}
@@ -32,7 +33,8 @@ loop-holds c =
     let u = s .args .u in (
       omega arith,
       λ j. row-at u (omega arith) (omega arith) (c .before .before .before .end-row .ensures j),
-      rw (c .before .store .ensures) (entries-at u {a = u .hours} (omega arith) (entries-end u (s .args .entries .now) (s .pre .0) (s .pre .1))),
+      rw (c .before .store .ensures) (entries-at u {a = u .hours} (omega arith)
+          (entries-end u (s .args .entries .now) (s .pre .0) (s .pre .1))),
     )
 
 sub-lock-step : tie.Need-sub-lock-step Inv-loop μ-loop
@@ -48,7 +50,8 @@ lock-step-requires c κs =
       (
         omega (arith, c .before .before .before .before .least .ensures),
         omega (arith, c .before .before .before .before .least .ensures, s .pre .0 .lock-le),
-        row-at (s .args .u) (omega (arith, c .before .before .before .before .least .ensures)) (omega arith) (c .before .before .before .loop .inv .1 0),
+        row-at (s .args .u) (omega (arith, c .before .before .before .before .least .ensures)) (omega arith)
+            (c .before .before .before .loop .inv .1 0),
       ),
     )
 
@@ -63,7 +66,13 @@ first-of-requires c κs = search needs
 
 store-requires-2 : tie.Need-store-requires-2 Inv-loop μ-loop
 store-requires-2 c κs =
-    omega (arith, c .before .before .before .before .before .before .before .before .loop .inv .2 .long, c .before .before .before .before .before .before .before .before .before .before .before .before .before .before .pre .0 .hours-le, c .before .before .before .before .before .before .before .before .before .least .ensures)
+    omega (
+      arith,
+      c .before .before .before .before .before .before .before .before .loop .inv .2 .long,
+      c .before .before .before .before .before .before .before .before .before .before .before .before .before .before
+          .pre .0 .hours-le,
+      c .before .before .before .before .before .before .before .before .before .least .ensures,
+    )
 
 add-i : tie.Need-add-i Inv-loop μ-loop
 add-i c = omega arith
@@ -73,25 +82,30 @@ loop-less c = omega arith
 
 loop-again : tie.Need-loop-again Inv-loop μ-loop
 loop-again c =
-    let s = c .before .before .before .before .before .before .before .before .before .before .before .before .before .before .before in
+    let s =
+    c .before .before .before .before .before .before .before .before .before .before .before .before .before .before
+    .before in
     let u = s .args .u in
     let l = c .before .before .before .before .before .before .before .before .before .loop in
     let m = c .before .before .before .before .before .before .before .before .before .before .least .ensures in
     let h : l .i < min (u .lock) (u .hours) = omega arith in
     let down : (j : ℕ) → Row u (u .hours - l .i - 1) (suc (j + l .i)) _ =
-    λ j. c .before .before .before .before .before .lock-step .ensures (j + l .i) (row-at u (omega arith) refl (l .inv .1 j)) in
+    λ j. c .before .before .before .before .before .lock-step .ensures (j + l .i)
+    (row-at u (omega arith) refl (l .inv .1 j)) in
     let row : Row u (u .hours - l .i - 1) (u .lock) _ = row-at u refl (omega arith) (down (u .lock - suc (l .i))) in (
       omega arith,
       λ j. row-at u (omega arith) (omega arith) (down j),
       rw (c .store2 .ensures)
           (entries-at u (omega arith)
-          (entries-step u (u .hours - l .i - 1) (omega (arith, s .pre .0 .hours-le)) (entries-at u (omega arith) (l .inv .2))
+          (entries-step u (u .hours - l .i - 1) (omega (arith, s .pre .0 .hours-le))
+          (entries-at u (omega arith) (l .inv .2))
           (c .before .first-of .ensures ∙ entry-at u (s .pre .0) (u .hours - l .i - 1) row))),
     )
 
 returns : tie.Need-returns Inv-loop μ-loop
 returns c =
-    entries-at (c .before .before .before .before .before .before .before .args .u) (omega (arith, c .before .loop .inv .0, c .before .before .least .ensures)) (c .before .loop .inv .2)
+    entries-at (c .before .before .before .before .before .before .before .args .u)
+    (omega (arith, c .before .loop .inv .0, c .before .before .least .ensures)) (c .before .loop .inv .2)
 
 pub last-entries-spec : {M : Type 1} → statement M
 last-entries-spec =

@@ -15,12 +15,17 @@ div-save-layer c = omega (arith, c .before .pre .1 .1 .stride-pos)
 mul-save-layer : tie.Need-mul-save-layer
 mul-save-layer c =
     let s = c .before in
-    omega (arith, slot-room (s .args .u) (s .args .l) (s .args .w) (s .pre .1 .1) (s .args .k) (c .if1 .taken) (s .pre .1 .0))
+    omega (
+      arith,
+      slot-room (s .args .u) (s .args .l) (s .args .w) (s .pre .1 .1) (s .args .k) (c .if1 .taken)
+          (s .pre .1 .0),
+    )
 
 save-layer-requires : tie.Need-save-layer-requires
 save-layer-requires c κs =
     let s = c .before .before in
-    let r = slot-room (s .args .u) (s .args .l) (s .args .w) (s .pre .1 .1) (s .args .k) (c .before .if1 .taken) (s .pre .1 .0) in
+    let r = slot-room (s .args .u) (s .args .l) (s .args .w) (s .pre .1 .1) (s .args .k) (c .before .if1 .taken)
+    (s .pre .1 .0) in
     (s .pre .0, (omega (arith, s .pre .1 .3 .room, s .pre .1 .1 .width), s .pre .1 .2))
 
 same-length : tie.Need-same-length
@@ -29,7 +34,8 @@ same-length c = search needs
 returns : tie.Need-returns
 returns c =
     let s = c .before .before .before .before in
-    saved-step (s .args .u) (s .args .l) (s .args .w) (s .pre .1 .1) (s .args .k) (c .before .before .before .if1 .taken) (c .before .save-layer .ensures) (s .pre .1 .3)
+    saved-step (s .args .u) (s .args .l) (s .args .w) (s .pre .1 .1) (s .args .k)
+    (c .before .before .before .if1 .taken) (c .before .save-layer .ensures) (s .pre .1 .3)
 
 returns-2 : tie.Need-returns-2
 returns-2 c =

@@ -13,15 +13,31 @@ sub-n : tie.Need-sub-n
 sub-n c = omega (arith, c .before .before .pre .0 .minimum-le)
 
 copy-out-requires : tie.Need-copy-out-requires
-copy-out-requires c κs =
-    (omega (arith, c .before .before .before .before .pre .1 .0), omega (arith, c .before .before .before .before .pre .1 .1 .row .long, c .before .before .before .before .pre .0 .capacity-le, c .before .before .before .before .pre .0 .minimum-pos))
+copy-out-requires c κs = (
+  omega (arith, c .before .before .before .before .pre .1 .0),
+  omega (
+    arith,
+    c .before .before .before .before .pre .1 .1 .row .long,
+    c .before .before .before .before .pre .0 .capacity-le,
+    c .before .before .before .before .pre .0 .minimum-pos,
+  ),
+)
 
 add-copy-out : tie.Need-add-copy-out
 add-copy-out c = omega (arith, c .before .before .before .before .before .before .before .pre .1 .0)
 
 copy-out-requires-2 : tie.Need-copy-out-requires-2
-copy-out-requires-2 c κs =
-    (omega (arith, c .before .before .before .before .before .before .before .before .pre .1 .0, c .before .before .before .copy-out .ensures .long), omega (arith, c .before .before .before .before .before .before .before .before .pre .1 .1 .side .long))
+copy-out-requires-2 c κs = (
+  omega (
+    arith,
+    c .before .before .before .before .before .before .before .before .pre .1 .0,
+    c .before .before .before .copy-out .ensures .long,
+  ),
+  omega (
+    arith,
+    c .before .before .before .before .before .before .before .before .pre .1 .1 .side .long,
+  ),
+)
 
 same-length : tie.Need-same-length
 same-length c =
@@ -29,7 +45,11 @@ same-length c =
 
 returns : tie.Need-returns
 returns c =
-    kept-of (c .before .before .before .before .before .before .before .before .before .before .args .u) (c .before .before .before .before .before .before .before .before .before .before .args .k) (c .before .before .before .before .before .before .before .before .before .before .args .off) (c .before .before .before .before .before .before .before .before .before .before .pre .1 .1) (c .before .before .before .before .before .copy-out .ensures) (c .before .copy-out2 .ensures)
+    kept-of (c .before .before .before .before .before .before .before .before .before .before .args .u)
+    (c .before .before .before .before .before .before .before .before .before .before .args .k)
+    (c .before .before .before .before .before .before .before .before .before .before .args .off)
+    (c .before .before .before .before .before .before .before .before .before .before .pre .1 .1)
+    (c .before .before .before .before .before .copy-out .ensures) (c .before .copy-out2 .ensures)
 
 pub save-layer-spec : {M : Type 1} → statement M
 save-layer-spec =

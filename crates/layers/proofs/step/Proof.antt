@@ -14,13 +14,20 @@ row-step-requires c κs =
       (
         s .pre .1 .0,
         s .pre .1 .1 .row,
-        c .before .fallen-worth .ensures (s .args .u) (suc (s .args .k)) refl (s .pre .0 .mindown-pos) (s .pre .1 .1 .side),
+        c .before .fallen-worth .ensures (s .args .u) (suc (s .args .k)) refl (s .pre .0 .mindown-pos)
+            (s .pre .1 .1 .side),
       ),
     )
 
 side-step-requires : tie.Need-side-step-requires
-side-step-requires c κs =
-    (c .before .before .before .before .before .pre .0, (c .before .before .before .before .before .pre .1 .0, c .before .before .before .before .before .pre .1 .1 .side, c .before .before .before .before .before .pre .1 .2))
+side-step-requires c κs = (
+  c .before .before .before .before .before .pre .0,
+  (
+    c .before .before .before .before .before .pre .1 .0,
+    c .before .before .before .before .before .pre .1 .1 .side,
+    c .before .before .before .before .before .pre .1 .2,
+  ),
+)
 
 returns : tie.Need-returns
 returns c = record { row = c .before .before .row-step .ensures; side = c .side-step .ensures }

@@ -1,4 +1,5 @@
--- `rows::open_row` meets its contract: an empty row where the hour is ordered off-line, else the window between two lines. Assumes nothing.
+-- `rows::open_row` meets its contract: an empty row where the hour is ordered off-line, else the window between two
+-- lines. Assumes nothing.
 use borrow.Author.Needs.{needs}
 use native.Mathlib.Omega.{arith}
 use mathlib.Core.Path.{_≡_, refl, ap, _∙_}
@@ -31,7 +32,8 @@ first-small c =
     (omega (arith, s .pre .0 .minimum-le, s .pre .0 .capacity-le)))
 
 hold-is : (c : tie.After-amount) → c .amount .result .0
-    ≡ pos (c .before .before .before .before .before .before .before .before .before .before .before .before .args .u .holds)
+    ≡ pos (c .before .before .before .before .before .before .before .before .before .before .before .before .args .u
+    .holds)
 hold-is c =
     c .amount .ensures
     ∙ ap (λ (t : Terms). pos (t .holds))
@@ -48,21 +50,29 @@ add-n c = search needs
 
 empty-requires : tie.Need-empty-requires
 empty-requires c κs =
-    omega (arith, c .before .before .before .before .before .pre .1 .1 .long, c .before .before .before .before .before .pre .0 .minimum-pos, c .before .before .before .before .before .pre .0 .capacity-le)
+    omega (
+      arith,
+      c .before .before .before .before .before .pre .1 .1 .long,
+      c .before .before .before .before .before .pre .0 .minimum-pos,
+      c .before .before .before .before .before .pre .0 .capacity-le,
+    )
 
 returns : tie.Need-returns
 returns c =
     let s = c .before .before .before .before .before .before in
     λ i row. open-empty (s .args .u) (s .pre .0) (s .args .k) i _ (omega (arith, s .pre .0 .minimum-le))
-    (rw (c .before .before .before .before .before .terms-of .ensures) at (c .before .before .if1 .taken)) row (c .empty .ensures)
+    (rw (c .before .before .before .before .before .terms-of .ensures) at (c .before .before .if1 .taken)) row
+    (c .empty .ensures)
 
 multiple-requires : tie.Need-multiple-requires
 multiple-requires c κs =
     let s = c .before .before .before .before in
     let f = s .pre .0 in
     let l : s .args .u .minimum ≤ 2 ^ 9 = omega (arith, f .minimum-le, f .capacity-le) in
-    let m : natAbs (c .before .before .before .terms-of .result .margin .0) ≤ 2 ^ 24 = rw (c .before .before .before .terms-of .ensures) (f .margins-le (s .args .k)) in
-    let h : natAbs (c .before .before .before .terms-of .result .margin .0) * s .args .u .minimum ≤ 2 ^ 24 * 2 ^ 9 = mul-le-mul m l in
+    let m : natAbs (c .before .before .before .terms-of .result .margin .0) ≤ 2 ^ 24 =
+    rw (c .before .before .before .terms-of .ensures) (f .margins-le (s .args .k)) in
+    let h : natAbs (c .before .before .before .terms-of .result .margin .0) * s .args .u .minimum ≤ 2 ^ 24 * 2 ^ 9 =
+    mul-le-mul m l in
     (omega arith, omega arith)
 
 raise-requires : tie.Need-raise-requires
@@ -75,7 +85,11 @@ raise-requires c κs =
         omega (arith, f .minimum-pos, f .capacity-le),
         row-small (s .args .u) f (suc (s .args .k)) (s .args .j - 1) _ (s .pre .1 .1) (omega (arith, f .minimum-le)),
       ),
-      (omega (arith, first-small (c .before)), rw (slope-is (c .before .before .before .before .before)) (f .margins-le (s .args .k))),
+      (
+        omega (arith, first-small (c .before)),
+        rw (slope-is (c .before .before .before .before .before))
+            (f .margins-le (s .args .k)),
+      ),
     )
 
 slice-aggregate-window : tie.Need-slice-aggregate-window
@@ -95,38 +109,83 @@ window-requires c κs =
 
 amount-requires : tie.Need-amount-requires
 amount-requires c κs =
-    rw (c .before .before .before .before .before .before .before .before .before .before .terms-of .ensures) (omega (arith, c .before .before .before .before .before .before .before .before .before .before .before .pre .0 .holds-le))
+    rw (c .before .before .before .before .before .before .before .before .before .before .terms-of .ensures)
+    (omega (
+      arith,
+      c .before .before .before .before .before .before .before .before .before .before .before .pre .0
+          .holds-le,
+    ))
 
 difference-requires : tie.Need-difference-requires
 difference-requires c κs =
-    let h : natAbs (c .before .amount .result .0) ≤ 2 ^ 28 = rw (hold-is (c .before)) (c .before .before .before .before .before .before .before .before .before .before .before .before .before .pre .0 .holds-le) in
+    let h : natAbs (c .before .amount .result .0) ≤ 2 ^ 28 =
+    rw (hold-is (c .before)) (c .before .before .before .before .before .before .before .before .before .before .before
+    .before .before .pre .0 .holds-le) in
     omega (arith, first-small (c .before .before .before .before .before .before .before .before))
 
 raise-requires-2 : tie.Need-raise-requires-2
 unfolding margin
 raise-requires-2 c κs =
-    let s = c .before .before .before .before .before .before .before .before .before .before .before .before .before .before in
+    let s =
+    c .before .before .before .before .before .before .before .before .before .before .before .before .before .before in
     let f = s .pre .0 in
     let l = c .before .before .before .before .before .before .before .raise .ensures .long in
     let m = c .before .before .before .before .window .ensures .long in
     let h : natAbs (c .before .before .amount .result .0) ≤ 2 ^ 28 = rw (hold-is (c .before .before)) (f .holds-le) in
-    let d = abs-- (c .before .before .before .before .before .before .before .before .before .multiple .result .0) (c .before .before .amount .result .0) in (
+    let d = abs-- (c .before .before .before .before .before .before .before .before .before .multiple .result .0)
+    (c .before .before .amount .result .0) in (
       (
         omega (arith, s .pre .1 .1 .long, f .minimum-pos, f .capacity-le),
         omega (arith, f .minimum-pos, f .capacity-le),
-        window-small (s .args .u) f (s .args .k) (s .args .j) _ (omega (arith, f .minimum-le)) _ _ (s .pre .1 .1) (rw (first-is (c .before .before .before .before .before .before .before .before .before), slope-is (c .before .before .before .before .before .before .before .before .before .before .before .before .before)) at (c .before .before .before .before .before .before .before .raise .ensures)) _
+        window-small (s .args .u) f (s .args .k) (s .args .j) _ (omega (arith, f .minimum-le)) _ _ (s .pre .1 .1)
+            (rw (
+              first-is (c .before .before .before .before .before .before .before .before .before),
+              slope-is
+                  (c .before .before .before .before .before .before .before .before .before .before .before .before
+                  .before),
+            )
+            at (c .before .before .before .before .before .before .before .raise .ensures)) _
             (c .before .before .before .before .window .ensures),
       ),
-      (rw (c .difference .ensures) (omega (arith, first-small (c .before .before .before .before .before .before .before .before .before))), rw (slope-is (c .before .before .before .before .before .before .before .before .before .before .before .before .before)) (f .margins-le (s .args .k))),
+      (
+        rw (c .difference .ensures) (omega (
+          arith,
+          first-small
+              (c .before .before .before .before .before .before .before .before .before),
+        )),
+        rw (slope-is (c .before .before .before .before .before .before .before .before .before .before .before .before
+            .before)) (f .margins-le (s .args .k)),
+      ),
     )
 
 returns-2 : tie.Need-returns-2
 returns-2 c =
-    let s = c .before .before .before .before .before .before .before .before .before .before .before .before .before .before .before in
-    let e = rw (first-is (c .before .before .before .before .before .before .before .before .before .before), hold-is (c .before .before .before)) at (c .before .difference .ensures) in
-    let q = rw (e, slope-is (c .before .before .before .before .before .before .before .before .before .before .before .before .before .before)) at (c .raise2 .ensures) in
-    λ i row. open-line (s .args .u) (s .pre .0) (s .args .k) i _ (omega (arith, s .pre .0 .minimum-le)) _ _ row (rw (first-is (c .before .before .before .before .before .before .before .before .before .before), slope-is (c .before .before .before .before .before .before .before .before .before .before .before .before .before .before)) at (c .before .before .before .before .before .before .before .before .raise .ensures)) _
-    (c .before .before .before .before .before .window .ensures) _ (rw (c .before .before .before .before .before .before .before .before .before .before .before .before .before .before .terms-of .ensures) at (c .before .before .before .before .before .before .before .before .before .before .before .if1 .left)) q
+    let s =
+    c .before .before .before .before .before .before .before .before .before .before .before .before .before .before
+    .before in
+    let e = rw (
+      first-is (c .before .before .before .before .before .before .before .before .before .before),
+      hold-is
+          (c .before .before .before),
+    ) at (c .before .difference .ensures) in
+    let q =
+    rw (
+      e,
+      slope-is (c .before .before .before .before .before .before .before .before .before .before .before .before
+          .before .before),
+    ) at (c .raise2 .ensures) in
+    λ i row. open-line (s .args .u) (s .pre .0) (s .args .k) i _ (omega (arith, s .pre .0 .minimum-le)) _ _ row
+    (rw (
+      first-is (c .before .before .before .before .before .before .before .before .before .before),
+      slope-is
+          (c .before .before .before .before .before .before .before .before .before .before .before .before .before
+          .before),
+    )
+    at (c .before .before .before .before .before .before .before .before .raise .ensures)) _
+    (c .before .before .before .before .before .window .ensures) _
+    (rw (c .before .before .before .before .before .before .before .before .before .before .before .before .before
+    .before .terms-of .ensures) at (c .before .before .before .before .before .before .before .before .before .before
+    .before .if1 .left)) q
 
 pub open-row-spec : {M : Type 1} → statement M
 open-row-spec =

@@ -1,4 +1,5 @@
--- `search::all_entries` meets its contract. The invariant: the layer is that of hour k, and so are the entries and the kept layers. Assumes nothing.
+-- `search::all_entries` meets its contract. The invariant: the layer is that of hour k, and so are the entries and the
+-- kept layers. Assumes nothing.
 use native.Mathlib.Omega.{arith}
 use mathlib.Core.Path.{_≡_, refl, sym, _∙_, subst}
 use Prim.Native.Nat.{suc, _-_, _≤_}
@@ -39,7 +40,12 @@ loop-holds c =
 
 value-at-requires : tie.Need-value-at-requires Inv-loop μ-loop
 value-at-requires c κs =
-    omega (arith, c .before .before .before .loop .inv .2 .long, c .before .before .before .loop .inv .0, c .before .before .before .before .before .before .before .before .before .before .pre .0 .hours-le)
+    omega (
+      arith,
+      c .before .before .before .loop .inv .2 .long,
+      c .before .before .before .loop .inv .0,
+      c .before .before .before .before .before .before .before .before .before .before .pre .0 .hours-le,
+    )
 
 sub-k : tie.Need-sub-k Inv-loop μ-loop
 sub-k c = omega arith
@@ -60,14 +66,32 @@ step-requires c κs =
 
 enter-requires : tie.Need-enter-requires Inv-loop μ-loop
 enter-requires c κs =
-    let l = c .before .before .before .before .before .before .before .before .before .loop in
-    (c .before .before .before .before .before .before .before .before .before .before .before .before .before .before .before .before .pre .0, (omega (arith, l .inv .0), c .before .before .step .ensures .row, entries-at (c .before .before .before .before .before .before .before .before .before .before .before .before .before .before .before .before .args .u) (omega (arith, c .before .before .before .before .before .before .before .before .loop-test .taken)) (l .inv .2)))
+    let l = c .before .before .before .before .before .before .before .before .before .loop in (
+      c .before .before .before .before .before .before .before .before .before .before .before .before .before .before
+          .before .before .pre .0,
+      (
+        omega (arith, l .inv .0),
+        c .before .before .step .ensures .row,
+        entries-at (c .before .before .before .before .before .before .before .before .before .before .before .before
+            .before .before .before .before .args .u)
+            (omega (arith, c .before .before .before .before .before .before .before .before .loop-test .taken))
+            (l .inv .2),
+      ),
+    )
 
 save-if-requires : tie.Need-save-if-requires Inv-loop μ-loop
 save-if-requires c κs =
-    let s = c .before .before .before .before .before .before .before .before .before .before .before .before .before .before .before .before .before .before .before .before in
-    let l = c .before .before .before .before .before .before .before .before .before .before .before .before .before .loop in
-    let e : l .k ≡ suc (l .k - 1) = omega (arith, c .before .before .before .before .before .before .before .before .before .before .before .before .loop-test .taken) in (
+    let s =
+    c .before .before .before .before .before .before .before .before .before .before .before .before .before .before
+    .before .before .before .before .before .before in
+    let l =
+    c .before .before .before .before .before .before .before .before .before .before .before .before .before .loop in
+    let e : l .k ≡ suc (l .k - 1) =
+    omega (
+      arith,
+      c .before .before .before .before .before .before .before .before .before .before .before .before
+          .loop-test .taken,
+    ) in (
       s .pre .0,
       (
         omega (arith, l .inv .0),
@@ -79,12 +103,23 @@ save-if-requires c κs =
 
 loop-less : tie.Need-loop-less Inv-loop μ-loop
 loop-less c =
-    omega (arith, c .before .before .before .before .before .before .before .before .before .before .before .before .before .before .loop-test .taken)
+    omega (
+      arith,
+      c .before .before .before .before .before .before .before .before .before .before .before .before
+          .before .before .loop-test .taken,
+    )
 
 loop-again : tie.Need-loop-again Inv-loop μ-loop
 loop-again c =
-    let l = c .before .before .before .before .before .before .before .before .before .before .before .before .before .before .before .loop in
-    (omega (arith, l .inv .0), c .before .before .before .before .before .before .before .before .step .ensures, c .before .before .before .before .before .enter .ensures, c .before .save-if .ensures, c .before .save-if .kept .1 .1 .1 .1 .1 .1 .0 ∙ l .inv .4)
+    let l =
+    c .before .before .before .before .before .before .before .before .before .before .before .before .before .before
+    .before .loop in (
+      omega (arith, l .inv .0),
+      c .before .before .before .before .before .before .before .before .step .ensures,
+      c .before .before .before .before .before .enter .ensures,
+      c .before .save-if .ensures,
+      c .before .save-if .kept .1 .1 .1 .1 .1 .1 .0 ∙ l .inv .4,
+    )
 
 same-length : tie.Need-same-length Inv-loop μ-loop
 same-length c = c .before .loop .inv .4
@@ -93,8 +128,11 @@ returns : tie.Need-returns Inv-loop μ-loop
 returns c =
     let l = c .before .loop in
     let s = c .before .before .before .before .before .before .before .before in
-    let e : l .k ≡ 0 = omega (arith, c .loop-test .left) in
-    (entries-at (s .args .u) (omega arith) (l .inv .2), subst (λ n. Saved (s .args .u) (s .args .l) (s .args .w) n (l .work)) e (l .inv .3))
+    let e : l .k ≡ 0 = omega (arith, c .loop-test .left) in (
+      entries-at (s .args .u) (omega arith) (l .inv .2),
+      subst
+          (λ n. Saved (s .args .u) (s .args .l) (s .args .w) n (l .work)) e (l .inv .3),
+    )
 
 pub all-entries-spec : {M : Type 1} → statement M
 all-entries-spec =

@@ -14,23 +14,50 @@ lock-of-requires c κs = search needs
 prepare-requires : tie.Need-prepare-requires
 prepare-requires c κs =
     let s = c .before .before .before in
-    let j = lock-small (s .args .u) (s .args .s) (s .pre .1 .0 .2) in
-    (s .pre .0, ((s .pre .1 .0 .0, omega (arith, j, c .before .before .lock-of .ensures), s .pre .1 .0 .1), (s .pre .1 .1, (refl, refl))))
+    let j = lock-small (s .args .u) (s .args .s) (s .pre .1 .0 .2) in (
+      s .pre .0,
+      (
+        (s .pre .1 .0 .0, omega (arith, j, c .before .before .lock-of .ensures), s .pre .1 .0 .1),
+        (s .pre .1 .1, (refl, refl)),
+      ),
+    )
 
 add-value-at : tie.Need-add-value-at
 add-value-at c =
-    omega (arith, c .before .before .before .before .before .pre .1 .0 .0, c .before .before .before .before .before .pre .0 .hours-le)
+    omega (
+      arith,
+      c .before .before .before .before .before .pre .1 .0 .0,
+      c .before .before .before .before .before .pre .0 .hours-le,
+    )
 
 value-at-requires : tie.Need-value-at-requires
 value-at-requires c κs =
-    omega (arith, c .before .before .before .before .before .pre .1 .1 .0 .long, c .before .before .before .before .before .pre .1 .0 .0, c .before .before .before .before .before .pre .0 .hours-le)
+    omega (
+      arith,
+      c .before .before .before .before .before .pre .1 .1 .0 .long,
+      c .before .before .before .before .before .pre .1 .0 .0,
+      c .before .before .before .before .before .pre .0 .hours-le,
+    )
 
 choose-requires : tie.Need-choose-requires
 choose-requires c κs =
     let s = c .before .before .before .before .before .before .before .before in
     let a = s .args in
-    let x = c .before .before .value-at .ensures ∙ s .pre .1 .1 .0 .at (a .k + 1) (omega arith) (omega (arith, s .pre .1 .0 .0)) in
-    (s .pre .0, (s .pre .1 .0 .0, (s .pre .1 .0 .2, (rw (c .before .before .before .before .before .before .before .lock-of .ensures) at (c .before .before .before .before .prepare .ensures), rw add-one at x))))
+    let x = c .before .before .value-at .ensures ∙ s .pre .1 .1 .0 .at (a .k + 1) (omega arith)
+    (omega (arith, s .pre .1 .0 .0)) in (
+      s .pre .0,
+      (
+        s .pre .1 .0 .0,
+        (
+          s .pre .1 .0 .2,
+          (
+            rw (c .before .before .before .before .before .before .before .lock-of .ensures)
+                at (c .before .before .before .before .prepare .ensures),
+            rw add-one at x,
+          ),
+        ),
+      ),
+    )
 
 returns : tie.Need-returns
 returns c = search needs

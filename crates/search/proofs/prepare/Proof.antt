@@ -1,4 +1,5 @@
--- `search::prepare` meets its contract: the layer at which the lock ends, or that of the end of the day, and locked rows from there. Assumes nothing.
+-- `search::prepare` meets its contract: the layer at which the lock ends, or that of the end of the day, and locked
+-- rows from there. Assumes nothing.
 use borrow.Author.Needs.{needs}
 use native.Mathlib.Omega.{arith}
 use Prim.Native.Nat.{_-_}
@@ -20,28 +21,59 @@ least-requires : tie.Need-least-requires
 least-requires c κs = search needs
 
 base-layer-requires : tie.Need-base-layer-requires
-base-layer-requires c κs =
-    (c .before .before .before .before .pre .0, ((omega (arith, c .before .before .least .ensures), c .before .before .before .before .pre .1 .0 .2, c .before .before .before .before .pre .1 .1 .0 .1), c .before .before .before .before .pre .1 .1 .1))
+base-layer-requires c κs = (
+  c .before .before .before .before .pre .0,
+  (
+    (
+      omega (arith, c .before .before .least .ensures),
+      c .before .before .before .before .pre .1 .0 .2,
+      c .before .before .before .before .pre .1 .1 .0 .1,
+    ),
+    c .before .before .before .before .pre .1 .1 .1,
+  ),
+)
 
 descend-requires : tie.Need-descend-requires
-descend-requires c κs =
-    (c .before .before .before .before .before .before .before .pre .0, (c .before .before .base-layer .ensures, c .before .before .before .before .before .before .before .pre .1 .1 .0 .0))
+descend-requires c κs = (
+  c .before .before .before .before .before .before .before .pre .0,
+  (
+    c .before .before .base-layer .ensures,
+    c .before .before .before .before .before .before .before .pre .1 .1 .0 .0,
+  ),
+)
 
 add-n : tie.Need-add-n
 add-n c =
-    omega (arith, c .before .before .before .before .before .before .before .before .pre .1 .0 .0, c .before .before .before .before .before .before .before .before .pre .0 .hours-le)
+    omega (
+      arith,
+      c .before .before .before .before .before .before .before .before .pre .1 .0 .0,
+      c .before .before .before .before .before .before .before .before .pre .0 .hours-le,
+    )
 
 sub-n : tie.Need-sub-n
 sub-n c =
-    omega (arith, c .before .before .before .before .before .before .least .ensures, c .before .before .before .before .before .before .before .before .pre .1 .0 .0)
+    omega (
+      arith,
+      c .before .before .before .before .before .before .least .ensures,
+      c .before .before .before .before .before .before .before .before .pre .1 .0 .0,
+    )
 
 add-lock-down : tie.Need-add-lock-down
 add-lock-down c =
-    omega (arith, c .before .before .before .before .before .before .before .before .pre .1 .0 .0, c .before .before .before .before .before .before .before .before .pre .0 .hours-le)
+    omega (
+      arith,
+      c .before .before .before .before .before .before .before .before .pre .1 .0 .0,
+      c .before .before .before .before .before .before .before .before .pre .0 .hours-le,
+    )
 
 sub-lock-down : tie.Need-sub-lock-down
 sub-lock-down c =
-    omega (arith, c .before .before .before .before .before .before .least .ensures, c .before .before .before .before .before .before .before .less .ensures, c .before .before .before .before .before .before .before .before .pre .1 .0 .0)
+    omega (
+      arith,
+      c .before .before .before .before .before .before .least .ensures,
+      c .before .before .before .before .before .before .before .less .ensures,
+      c .before .before .before .before .before .before .before .before .pre .1 .0 .0,
+    )
 
 lock-down-requires : tie.Need-lock-down-requires
 lock-down-requires c κs =
@@ -53,7 +85,10 @@ lock-down-requires c κs =
       (
         omega (arith, m, h),
         omega (arith, m, b, s .pre .1 .0 .1),
-        base-row (s .args .u) (s .args .k) (c .before .before .before .before .before .before .before .before .less .result) (c .before .before .before .before .before .before .before .least .result) m h (c .before .descend .ensures .row),
+        base-row (s .args .u) (s .args .k)
+            (c .before .before .before .before .before .before .before .before .less .result)
+            (c .before .before .before .before .before .before .before .least .result) m h
+            (c .before .descend .ensures .row),
       ),
     )
 
@@ -62,7 +97,9 @@ returns c =
     let s = c .before .before .before .before .before .before .before .before .before .before in
     let m = c .before .before .before .before .before .before .before .before .least .ensures in
     let b = c .before .before .before .before .before .before .before .before .before .less .ensures in
-    ahead-of (s .args .u) (s .args .k) (s .args .j) (c .before .before .before .before .before .before .before .before .least .result) (rw (← b) m) (s .pre .1 .0 .0) (rw (← b) (c .lock-down .ensures))
+    ahead-of (s .args .u) (s .args .k) (s .args .j)
+    (c .before .before .before .before .before .before .before .before .least .result) (rw (← b) m) (s .pre .1 .0 .0)
+    (rw (← b) (c .lock-down .ensures))
     (c .before .before .descend .ensures .side)
 
 pub prepare-spec : {M : Type 1} → statement M

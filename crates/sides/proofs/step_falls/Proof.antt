@@ -1,4 +1,5 @@
--- `sides::step_falls` meets its contract. The invariant: the cells before entry i have what they should. Assumes nothing.
+-- `sides::step_falls` meets its contract. The invariant: the cells before entry i have what they should. Assumes
+-- nothing.
 use borrow.Author.Needs.{needs}
 use native.Mathlib.Omega.{arith}
 use mathlib.Core.Path.{_≡_, refl, _∙_}
@@ -27,7 +28,8 @@ abbrev μ-loop : tie.MeasureT-loop
 later : (c : tie.After-fallen-worth Inv-loop μ-loop) → c .fallen-worth .result .0
     ≡ coded (worth (c .before .before .before .before .before .before .before .args .u)
     (suc (c .before .before .before .before .before .before .before .args .k))
-    (fallen (c .before .before .before .before .before .before .before .args .u) (c .before .before .before .before .loop .i + 1)))
+    (fallen (c .before .before .before .before .before .before .before .args .u)
+    (c .before .before .before .before .loop .i + 1)))
 later c =
     let s = c .before .before .before .before .before .before .before in
     c .fallen-worth .ensures (s .args .u) (suc (s .args .k)) refl (s .pre .0 .mindown-pos) (s .pre .1 .1)
@@ -48,8 +50,10 @@ add-fallen-worth : tie.Need-add-fallen-worth Inv-loop μ-loop
 add-fallen-worth c = omega arith
 
 fallen-worth-requires : tie.Need-fallen-worth-requires Inv-loop μ-loop
-fallen-worth-requires c κs =
-    (c .before .before .before .before .before .before .pre .0 .falls-le, c .before .before .before .before .before .before .pre .1 .1 .long)
+fallen-worth-requires c κs = (
+  c .before .before .before .before .before .before .pre .0 .falls-le,
+  c .before .before .before .before .before .before .pre .1 .1 .long,
+)
 
 add-store : tie.Need-add-store Inv-loop μ-loop
 add-store c = omega arith
@@ -69,14 +73,20 @@ offered-requires c κs =
     let i = c .before .before .before .before .before .loop .i in (
       rw (c .before .before .before .before .before .before .before .terms-of .ensures) (fair-of (s .pre .0) (a .k)),
       (
-        rw (c .before .before .sunk-at .ensures) (sunk-sum (a .u) (s .pre .0) (getD (a .u .pd) i 0) (i + 1) (pd-small (a .u) (s .pre .0) i) (omega arith)),
+        rw (c .before .before .sunk-at .ensures) (sunk-sum (a .u) (s .pre .0) (getD (a .u .pd) i 0) (i + 1)
+            (pd-small (a .u) (s .pre .0) i) (omega arith)),
         rw (later (c .before)) (worth-abs (a .u) (s .pre .0) (suc (a .k)) (fallen (a .u) (i + 1))),
       ),
     )
 
 store-requires : tie.Need-store-requires Inv-loop μ-loop
 store-requires c κs =
-    omega (arith, c .before .before .before .before .before .before .loop .inv .1 .long, c .before .before .before .before .before .before .before .before .before .pre .1 .2, c .before .before .before .before .before .before .before .before .before .pre .0 .falls-le)
+    omega (
+      arith,
+      c .before .before .before .before .before .before .loop .inv .1 .long,
+      c .before .before .before .before .before .before .before .before .before .pre .1 .2,
+      c .before .before .before .before .before .before .before .before .before .pre .0 .falls-le,
+    )
 
 add-i : tie.Need-add-i Inv-loop μ-loop
 add-i c = omega arith
@@ -92,9 +102,15 @@ loop-again c =
     let l = c .before .before .before .before .before .before .before .loop in (
       omega (arith, c .before .before .before .before .before .if1 .taken),
       rw (c .store .ensures)
-          (written-to (omega arith) (written-up _ (l .inv .1) (omega arith) (omega (arith, s .pre .1 .2, s .pre .0 .falls-le))
+          (written-to (omega arith) (written-up _ (l .inv .1) (omega arith)
+          (omega (arith, s .pre .1 .2, s .pre .0 .falls-le))
           (c .before .offered .ensures
-          ∙ rw (later (c .before .before .before), c .before .before .before .before .before .before .before .before .before .terms-of .ensures, c .before .before .before .before .sunk-at .ensures) (fall-worth (a .u) (s .pre .0) (a .k) (s .pre .1 .0) (l .i))))),
+          ∙ rw (
+            later (c .before .before .before),
+            c .before .before .before .before .before .before .before .before .before .terms-of .ensures,
+            c .before .before .before .before .sunk-at .ensures,
+          )
+          (fall-worth (a .u) (s .pre .0) (a .k) (s .pre .1 .0) (l .i))))),
     )
 
 returns : tie.Need-returns Inv-loop μ-loop

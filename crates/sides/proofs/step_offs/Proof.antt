@@ -22,7 +22,8 @@ abbrev μ-loop : tie.MeasureT-loop
 
 -- what the cell after d holds
 later : (c : tie.After-value-at Inv-loop μ-loop) → c .value-at .result .0
-    ≡ coded (worth (c .before .before .before .before .before .args .u) (suc (c .before .before .before .before .before .args .k))
+    ≡ coded (worth (c .before .before .before .before .before .args .u)
+    (suc (c .before .before .before .before .before .args .k))
     (Off (c .before .before .before .loop .d + 1)))
 later c =
     let s = c .before .before .before .before .before in
@@ -39,16 +40,27 @@ add-value-at c = omega arith
 
 value-at-requires : tie.Need-value-at-requires Inv-loop μ-loop
 value-at-requires c κs =
-    omega (arith, c .before .before .before .before .pre .1 .1 .long, c .before .before .before .before .pre .0 .mindown-le)
+    omega (
+      arith,
+      c .before .before .before .before .pre .1 .1 .long,
+      c .before .before .before .before .pre .0 .mindown-le,
+    )
 
 offered-requires : tie.Need-offered-requires Inv-loop μ-loop
 offered-requires c κs =
-    let s = c .before .before .before .before .before .before in
-    (rw (c .before .before .before .before .before .terms-of .ensures) (fair-of (s .pre .0) (s .args .k)), (omega arith, rw (later (c .before)) (worth-abs (s .args .u) (s .pre .0) (suc (s .args .k)) _)))
+    let s = c .before .before .before .before .before .before in (
+      rw (c .before .before .before .before .before .terms-of .ensures) (fair-of (s .pre .0) (s .args .k)),
+      (omega arith, rw (later (c .before)) (worth-abs (s .args .u) (s .pre .0) (suc (s .args .k)) _)),
+    )
 
 store-requires : tie.Need-store-requires Inv-loop μ-loop
 store-requires c κs =
-    omega (arith, c .before .before .before .before .before .loop .inv .2 .long, c .before .before .before .before .before .before .before .pre .1 .3, c .before .before .before .before .before .before .before .pre .0 .mindown-le)
+    omega (
+      arith,
+      c .before .before .before .before .before .loop .inv .2 .long,
+      c .before .before .before .before .before .before .before .pre .1 .3,
+      c .before .before .before .before .before .before .before .pre .0 .mindown-le,
+    )
 
 add-d : tie.Need-add-d Inv-loop μ-loop
 add-d c = omega arith
@@ -65,7 +77,11 @@ loop-again c =
       rw (c .store .ensures)
           (written-up _ (l .inv .2) (l .inv .0) (omega (arith, s .pre .1 .3, s .pre .0 .mindown-le))
           (c .before .offered .ensures
-          ∙ rw (later (c .before .before .before), c .before .before .before .before .before .before .before .terms-of .ensures) (wait-worth (s .args .u) (s .pre .0) (s .args .k) (s .pre .1 .0) (l .d) (omega arith)))),
+          ∙ rw (
+            later (c .before .before .before),
+            c .before .before .before .before .before .before .before .terms-of .ensures,
+          )
+          (wait-worth (s .args .u) (s .pre .0) (s .args .k) (s .pre .1 .0) (l .d) (omega arith)))),
     )
 
 choose-off-requires : tie.Need-choose-off-requires Inv-loop μ-loop
@@ -75,7 +91,12 @@ choose-off-requires c κs =
 
 store-requires-2 : tie.Need-store-requires-2 Inv-loop μ-loop
 store-requires-2 c κs =
-    omega (arith, c .before .before .before .loop .inv .2 .long, c .before .before .before .before .before .pre .1 .3, c .before .before .before .before .before .pre .0 .mindown-le)
+    omega (
+      arith,
+      c .before .before .before .loop .inv .2 .long,
+      c .before .before .before .before .before .pre .1 .3,
+      c .before .before .before .before .before .pre .0 .mindown-le,
+    )
 
 returns : tie.Need-returns Inv-loop μ-loop
 returns c =

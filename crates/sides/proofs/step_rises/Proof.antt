@@ -1,4 +1,5 @@
--- `sides::step_rises` meets its contract. The invariant: the cells before entry i have what they should. Assumes nothing.
+-- `sides::step_rises` meets its contract. The invariant: the cells before entry i have what they should. Assumes
+-- nothing.
 use borrow.Author.Needs.{needs}
 use native.Mathlib.Omega.{arith}
 use mathlib.Core.Path.{_≡_, refl, _∙_}
@@ -44,8 +45,11 @@ add-risen-worth : tie.Need-add-risen-worth Inv-loop μ-loop
 add-risen-worth c = omega arith
 
 risen-worth-requires : tie.Need-risen-worth-requires Inv-loop μ-loop
-risen-worth-requires c κs =
-    (c .if1 .taken, c .before .before .before .before .before .pre .0 .rises-le, c .before .before .before .before .before .pre .1 .1 .long)
+risen-worth-requires c κs = (
+  c .if1 .taken,
+  c .before .before .before .before .before .pre .0 .rises-le,
+  c .before .before .before .before .before .pre .1 .1 .long,
+)
 
 add-store : tie.Need-add-store Inv-loop μ-loop
 add-store c = omega arith
@@ -71,12 +75,21 @@ offered-requires c κs =
     let a = s .args in
     let i = c .before .before .before .before .loop .i in (
       rw (c .before .before .before .before .before .before .terms-of .ensures) (fair-of (s .pre .0) (a .k)),
-      (pu-sum (a .u) (s .pre .0) i (i + 1), rw (later (c .before)) (worth-abs (a .u) (s .pre .0) (suc (a .k)) (risen (a .u) (i + 1)))),
+      (
+        pu-sum (a .u) (s .pre .0) i (i + 1),
+        rw (later (c .before))
+            (worth-abs (a .u) (s .pre .0) (suc (a .k)) (risen (a .u) (i + 1))),
+      ),
     )
 
 store-requires : tie.Need-store-requires Inv-loop μ-loop
 store-requires c κs =
-    omega (arith, c .before .before .before .before .before .loop .inv .1 .long, c .before .before .before .before .before .before .before .before .pre .1 .3, c .before .before .before .before .before .before .before .before .pre .0 .rises-le)
+    omega (
+      arith,
+      c .before .before .before .before .before .loop .inv .1 .long,
+      c .before .before .before .before .before .before .before .before .pre .1 .3,
+      c .before .before .before .before .before .before .before .before .pre .0 .rises-le,
+    )
 
 add-i : tie.Need-add-i Inv-loop μ-loop
 add-i c = omega arith
@@ -91,9 +104,14 @@ loop-again c =
     let l = c .before .before .before .before .before .before .loop in (
       omega (arith, c .before .before .before .before .if1 .taken),
       rw (c .store .ensures)
-          (written-to (omega arith) (written-up _ (l .inv .1) (omega arith) (omega (arith, s .pre .1 .3, s .pre .0 .rises-le))
+          (written-to (omega arith) (written-up _ (l .inv .1) (omega arith)
+          (omega (arith, s .pre .1 .3, s .pre .0 .rises-le))
           (c .before .offered .ensures
-          ∙ rw (later (c .before .before .before), c .before .before .before .before .before .before .before .before .terms-of .ensures) (rise-worth (a .u) (s .pre .0) (a .k) (s .pre .1 .0) (l .i))))),
+          ∙ rw (
+            later (c .before .before .before),
+            c .before .before .before .before .before .before .before .before .terms-of .ensures,
+          )
+          (rise-worth (a .u) (s .pre .0) (a .k) (s .pre .1 .0) (l .i))))),
     )
 
 returns : tie.Need-returns Inv-loop μ-loop

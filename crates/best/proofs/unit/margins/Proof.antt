@@ -1,4 +1,5 @@
--- `best::unit::margins` meets its contract. The invariant: the margins of the first k hours are there, and 0 stands past
+-- `best::unit::margins` meets its contract. The invariant: the margins of the first k hours are there, and 0 stands
+-- past
 -- them. Assumes nothing.
 use borrow.Author.Needs.{needs}
 use mathlib.Core.Path.{_≡_, refl, _∙_}

@@ -41,7 +41,9 @@ less-requires c κs = search needs
 
 returns-2 : tie.Need-returns-2
 unfolding openingOf
-returns-2 c = rw (ne-eqb _ 0 (c .before .before .before .if1 .left)) (ap (Run (c .before .before .before .before .before .before .args .case .initial .0)) (c .less .ensures))
+returns-2 c =
+    rw (ne-eqb _ 0 (c .before .before .before .if1 .left))
+    (ap (Run (c .before .before .before .before .before .before .args .case .initial .0)) (c .less .ensures))
 
 pub opening-of-spec : {M : Type 1} → statement M
 opening-of-spec =

@@ -42,7 +42,9 @@ add-less c = search needs
 
 add-less-2 : tie.Need-add-less-2
 add-less-2 c =
-    let lim = limits-of-refusalOf _ (c .before .before .before .before .before .before .before .before .before .before .before .before .before .before .before .pre) in
+    let lim = limits-of-refusalOf _
+    (c .before .before .before .before .before .before .before .before .before .before .before .before .before .before
+    .before .pre) in
     omega (arith, lim .rises-le, lim .falls-le)
 
 less-requires : tie.Need-less-requires
@@ -55,27 +57,62 @@ mul-t20 : tie.Need-mul-t20
 mul-t20 c = search needs
 
 cast-t21 : tie.Need-cast-t21
-cast-t21 c = omega (arith, limits-of-refusalOf _ (c .before .before .before .before .before .before .before .before .before .before .before .before .before .before .before .before .before .before .pre) .startup-le)
+cast-t21 c =
+    omega (
+      arith,
+      limits-of-refusalOf _
+          (c .before .before .before .before .before .before .before .before .before .before .before .before .before .before
+          .before .before .before .before .pre) .startup-le,
+    )
 
 mul-t22 : tie.Need-mul-t22
-mul-t22 c = omega (arith, limits-of-refusalOf _ (c .before .before .before .before .before .before .before .before .before .before .before .before .before .before .before .before .before .before .pre) .startup-le)
+mul-t22 c =
+    omega (
+      arith,
+      limits-of-refusalOf _
+          (c .before .before .before .before .before .before .before .before .before .before .before .before .before .before
+          .before .before .before .before .pre) .startup-le,
+    )
 
 cast-t23 : tie.Need-cast-t23
-cast-t23 c = omega (arith, limits-of-refusalOf _ (c .before .before .before .before .before .before .before .before .before .before .before .before .before .before .before .before .before .before .before .pre) .shutdown-le)
+cast-t23 c =
+    omega (
+      arith,
+      limits-of-refusalOf _
+          (c .before .before .before .before .before .before .before .before .before .before .before .before .before .before
+          .before .before .before .before .before .pre) .shutdown-le,
+    )
 
 mul-t24 : tie.Need-mul-t24
-mul-t24 c = omega (arith, limits-of-refusalOf _ (c .before .before .before .before .before .before .before .before .before .before .before .before .before .before .before .before .before .before .before .pre) .shutdown-le)
+mul-t24 c =
+    omega (
+      arith,
+      limits-of-refusalOf _
+          (c .before .before .before .before .before .before .before .before .before .before .before .before .before .before
+          .before .before .before .before .before .pre) .shutdown-le,
+    )
 
 returns : tie.Need-returns
 unfolding unitOf
 returns c =
-    let pu = c .before .before .before .before .before .before .before .before .before .before .before .before .before .before .stages .ensures in
-    let pd = c .before .before .before .before .before .before .before .before .before .before .before .before .before .stages2 .ensures in
-    let priced = c .before .before .before .before .before .before .before .before .before .before .before .before .margins .ensures .1 in
-    let margins = c .before .before .before .before .before .before .before .before .before .before .before .before .margins .ensures .0 in
-    let orders = c .before .before .before .before .before .before .before .before .before .before .before .orders .ensures in
+    let pu =
+    c .before .before .before .before .before .before .before .before .before .before .before .before .before .before
+    .stages .ensures in
+    let pd =
+    c .before .before .before .before .before .before .before .before .before .before .before .before .before .stages2
+    .ensures in
+    let priced =
+    c .before .before .before .before .before .before .before .before .before .before .before .before .margins .ensures
+    .1 in
+    let margins =
+    c .before .before .before .before .before .before .before .before .before .before .before .before .margins .ensures
+    .0 in
+    let orders =
+    c .before .before .before .before .before .before .before .before .before .before .before .orders .ensures in
     let lock = c .before .before .before .less .ensures in
-    let case = c .before .before .before .before .before .before .before .before .before .before .before .before .before .before .before .before .before .before .before .args .case in (
+    let case =
+    c .before .before .before .before .before .before .before .before .before .before .before .before .before .before
+    .before .before .before .before .before .args .case in (
       λ i. record {
         minimum = case .minimum .0;
         capacity = case .capacity .0;
