@@ -1,10 +1,6 @@
-// Reads a case of up to 4,096 bytes from standard input and prints its best day on standard output: the profit in half-mills, and for each
-// hour its number, its output in megawatts and its energy in half-megawatt-hours; or "refused" and the number of the refusal. The work is
-// done by codec::read and best::schedule.
-ghost use mathlib.Core.Path.{_≡_};
-ghost use Prim.Native.Nat.{_+_, _≤_};
-ghost use lib.IntN.{natAbs};
-ghost use lib.ListN.{length};
+// Reads a case of up to 4,096 bytes from standard input and prints its best day on standard output: the profit in
+// half-mills, and for each hour its number, its output in megawatts and its energy in half-megawatt-hours; or
+// "refused" and the number of the refusal. The work is done by codec::read and best::schedule.
 use libc::STDIN_FILENO;
 use libc::STDOUT_FILENO;
 use model::Case;
@@ -16,23 +12,12 @@ use model::WORK;
 // Bytes that a case may have.
 const MOST: usize = 4096;
 
-// The magnitude of v, the least number's too.
-fn magnitude(v: HalfMills) -> u64
-    ensures { λ r. ⌜ r ≡ natAbs (v .0) ⌝ }
-{
-    if v.0 < 0 {
-        ((-(v.0 + 1)) as u64) + 1
-    } else {
-        v.0 as u64
-    }
-}
-
 fn print_profit(v: HalfMills) {
     io::write_all(STDOUT_FILENO, b"profit ");
     if v.0 < 0 {
         io::write_all(STDOUT_FILENO, b"-");
     }
-    io::print_decimal(STDOUT_FILENO, magnitude(v));
+    io::print_decimal(STDOUT_FILENO, money::magnitude(v));
     io::write_all(STDOUT_FILENO, b"\n");
 }
 

@@ -1,5 +1,5 @@
--- The answers as structs of numbers, by the papers' number and values of each (model's specs/Answers). Definitions only.
--- Assumes nothing.
+-- The answers as structs of numbers, by the papers' number and values of each (model's specs/Answers). Definitions
+-- only. Assumes nothing.
 use Rattle.model.specs.declared.Reading.{Reading}
 use Rattle.model.specs.declared.Written.{Written}
 use Rattle.model.specs.declared.Verdict.{Verdict}

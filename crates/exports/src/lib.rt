@@ -1,5 +1,5 @@
-// The C boundary (include/giqapsun.h): each call takes and gives structs by value, with no logic of its own. The answers' numbers and
-// values are those of model's specs/Answers; specs/Boundary lays them out.
+// The C boundary (include/giqapsun.h): each call takes and gives structs by value, with no logic of its own. The
+// answers' numbers and values are those of model's specs/Answers; specs/Boundary lays them out.
 use model::Case;
 use model::HalfMills;
 use model::Outcome;
@@ -119,7 +119,8 @@ pub extern "C" fn giqapsun_read(file: &[u8]) -> GiqapsunReading
     reading_out(codec::read(file))
 }
 
-// Writes the file of a record to the front of the lent bytes; those past it, and all of them on a refusal, stay as they are.
+// Writes the file of a record to the front of the lent bytes; those past it, and all of them on a refusal, stay as
+// they are.
 #[no_mangle]
 pub extern "C" fn giqapsun_write(case: Case, bytes: &mut [u8]) -> GiqapsunWritten
     ensures answer { λ r. ⌜ r ≡ writtenOut ((writeOf case (now (bytes .entry))) .answer) ⌝ }
@@ -136,7 +137,8 @@ pub extern "C" fn giqapsun_check(case: Case, list: &[u16]) -> GiqapsunVerdict
     verdict_out(rules::check(codec::admit(case), list))
 }
 
-// The best list of a record, in the first outputs; the first working numbers are zeroed. Nothing is changed on 2 to 8 and on 10.
+// The best list of a record, in the first outputs; the first working numbers are zeroed. Nothing is changed on 2 to 8
+// and on 10.
 #[no_mangle]
 pub extern "C" fn giqapsun_best(case: Case, work: &mut [i64], outputs: &mut [u16]) -> GiqapsunPlan
     ensures answer { λ r. ⌜ r ≡ planOut ((scheduleOf Accepted case (now (work .entry)) (now (outputs .entry))) .answer) ⌝ }

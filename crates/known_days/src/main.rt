@@ -1,0 +1,206 @@
+// The days whose answers are known from outside: the twelve of the scope on its small unit, and those of the source,
+// whose case is read from standard input. Prints one line for each: what was asked, and the answer of best::schedule
+// or rules::check.
+use libc::STDIN_FILENO;
+use libc::STDOUT_FILENO;
+use model::Case;
+use model::HOURS;
+use model::HalfMills;
+use model::Hour;
+use model::Output;
+use model::Plan;
+use model::Reading;
+use model::Verdict;
+use model::WORK;
+
+// A word, and a number after it.
+fn print_number(word: &[u8], n: u64) {
+    io::write_all(STDOUT_FILENO, word);
+    io::print_decimal(STDOUT_FILENO, n);
+}
+
+fn print_profit(v: HalfMills) {
+    if v.0 < 0 {
+        print_number(b" profit -", money::magnitude(v));
+    } else {
+        print_number(b" profit ", money::magnitude(v));
+    }
+}
+
+fn print_output(output: u16) {
+    print_number(b" ", output as u64);
+}
+
+// The first hours of a list.
+fn print_list(outputs: &[u16], hours: usize) {
+    let mut k = 0;
+    while k < outputs.len() {
+        if k < hours {
+            print_output(outputs[k]);
+        }
+        k += 1;
+    }
+}
+
+// The best list.
+fn print_best(name: &[u8], reading: Reading) {
+    let mut work = [0i64; WORK];
+    let mut outputs = [0u16; HOURS];
+    let case = reading.case;
+    io::write_all(STDOUT_FILENO, name);
+    match best::schedule(reading, &mut work, &mut outputs) {
+        Plan::Found(profit) => {
+            print_profit(profit);
+            io::write_all(STDOUT_FILENO, b" list");
+            print_list(&outputs, case.hours);
+        }
+        Plan::Refused(number) => {
+            print_number(b" refused ", number as u64);
+        }
+    }
+    io::write_all(STDOUT_FILENO, b"\n");
+}
+
+// The verdict of a list.
+fn print_check(name: &[u8], reading: Reading, list: &[u16]) {
+    io::write_all(STDOUT_FILENO, name);
+    match rules::check(reading, list) {
+        Verdict::Passes(profit) => {
+            print_profit(profit);
+        }
+        Verdict::Breaks(breach) => {
+            print_number(b" breaks ", breach.rule as u64);
+            print_number(b" at hour ", breach.hour.0 as u64);
+        }
+        Verdict::Refused(number) => {
+            print_number(b" refused ", number as u64);
+        }
+    }
+    io::write_all(STDOUT_FILENO, b"\n");
+}
+
+// A day of the scope's small unit: p(0), h, minimum down time, T, the price of every hour, the orders.
+fn small(
+    initial: u16,
+    elapsed: u16,
+    mindown: u16,
+    hours: usize,
+    price: u16,
+    orders: [u8; HOURS],
+) -> Reading {
+    let mut rise = [Output(0); 8];
+    rise[0] = Output(1);
+    rise[1] = Output(2);
+    let mut fall = [Output(0); 8];
+    fall[0] = Output(2);
+    fall[1] = Output(1);
+    codec::admit(Case {
+        capacity: Output(4),
+        minimum: Output(2),
+        rampup: Output(1),
+        rampdown: Output(1),
+        minup: Hour(1),
+        mindown: Hour(mindown),
+        variable: 10,
+        fixed: 1,
+        startup: 3,
+        shutdown: 2,
+        initial: Output(initial),
+        elapsed: Hour(elapsed),
+        rise: rise,
+        fall: fall,
+        prices: [price; HOURS],
+        orders: orders,
+        rises: 2,
+        falls: 2,
+        hours: hours,
+    })
+}
+
+// The twelve known days.
+fn print_known() {
+    let free = [0u8; HOURS];
+    print_best(b"1", small(0, 2, 1, 1, 10, free));
+    print_best(b"2", small(0, 2, 1, 1, 18, free));
+    print_best(b"3", small(0, 2, 1, 1, 19, free));
+    print_best(b"4", small(2, 2, 1, 1, 10, free));
+    print_best(b"5", small(2, 2, 1, 2, 5, free));
+    print_best(b"6", small(3, 2, 1, 2, 5, free));
+    print_best(b"7", small(3, 2, 1, 3, 5, free));
+    let mut orders = free;
+    orders[1] = 1;
+    orders[3] = 2;
+    print_best(b"8", small(0, 2, 1, 4, 10, orders));
+    print_check(b"9", small(0, 2, 1, 1, 10, free), &[2u16]);
+    print_check(b"10", small(2, 2, 1, 1, 10, free), &[4u16]);
+    print_best(b"11", small(0, 1, 2, 1, 10, [1u8; HOURS]));
+    orders[0] = 2;
+    print_best(b"12", small(0, 2, 1, 4, 10, orders));
+}
+
+// The prices of two days that are alike.
+fn twice(prices: [u16; HOURS]) -> [u16; HOURS] {
+    let mut both = prices;
+    let mut k = 0;
+    while k < 24 {
+        both[k + 24] = prices[k];
+        k += 1;
+    }
+    both
+}
+
+// The source's day, and its day twice.
+fn print_source(file: &[u8]) {
+    let reading = codec::read(file);
+    let mut case = reading.case;
+    print_best(b"source", reading);
+    let prices = case.prices;
+    let both = twice(prices);
+    case.prices = both;
+    case.hours = 48;
+    print_best(b"source twice", codec::admit(case));
+}
+
+// Lists of the source's day: the one that the source prints, and an output that is held.
+fn print_lists(file: &[u8]) {
+    let list = [
+        120u16,
+        112,
+        70,
+        30,
+        0,
+        0,
+        0,
+        37,
+        75,
+        112,
+        172,
+        232,
+        292,
+        294,
+        294,
+        294,
+        294,
+        294,
+        294,
+        294,
+        294,
+        244,
+        194,
+        144,
+    ];
+    print_check(b"source, printed list", codec::read(file), &list);
+    print_check(b"source, 120 held", codec::read(file), &[120u16; 24]);
+    print_check(b"source, 115 held", codec::read(file), &[115u16; 24]);
+    print_check(b"source, 23 outputs", codec::read(file), &[120u16; 23]);
+}
+
+fn main() {
+    print_known();
+    // as many bytes as the source's case has, and one more
+    let mut file = [0u8; 133];
+    let n = io::read_full(STDIN_FILENO, &mut file);
+    print_source(&file[..n]);
+    print_lists(&file[..n]);
+    print_best(b"source, a byte long", codec::read(&file));
+}
