@@ -10,6 +10,7 @@ use model::Hour;
 use model::Output;
 use model::Plan;
 use model::Reading;
+use model::STAGES;
 use model::Verdict;
 use model::WORK;
 
@@ -88,10 +89,10 @@ fn small(
     price: u16,
     orders: [u8; HOURS],
 ) -> Reading {
-    let mut rise = [Output(0); 8];
+    let mut rise = [Output(0); STAGES];
     rise[0] = Output(1);
     rise[1] = Output(2);
-    let mut fall = [Output(0); 8];
+    let mut fall = [Output(0); STAGES];
     fall[0] = Output(2);
     fall[1] = Output(1);
     codec::admit(Case {
