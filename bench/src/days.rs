@@ -1,6 +1,6 @@
 //! The days that are timed.
 
-use crate::library::Case;
+use giqapsun::Case;
 
 /// Prices of the source's Table III, in mills.
 const SOURCE_PRICES: [u16; 24] = [

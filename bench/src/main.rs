@@ -31,13 +31,13 @@ fn summary(mut times: Vec<Duration>) -> (f64, f64) {
 
 fn main() {
     println!(
-        "{:<34} {:>10} {:>10} {:>10} {:>10} {:>8} {:>8} {:>10}",
-        "day", "proved", "least", "plain", "least", "ratio", "least", "row steps"
+        "{:<34} {:>8} {:>8} {:>8} {:>8} {:>6} {:>6} {:>9} {:>6} {:>6}",
+        "day", "proved", "least", "plain", "least", "ratio", "least", "row steps", "check", "least"
     );
     for (name, case) in days::all() {
-        let mut work = vec![0i64; library::WORK];
+        let mut work = vec![0i64; giqapsun::WORK];
         let mut outputs = vec![0u16; case.hours];
-        let (mut proved, mut plain) = (Vec::new(), Vec::new());
+        let (mut proved, mut plain, mut checks) = (Vec::new(), Vec::new(), Vec::new());
         for _ in 0..ROUNDS {
             let (time, plan) = timed(|| library::best(&case, &mut work, &mut outputs));
             proved.push(time);
@@ -48,11 +48,14 @@ fn main() {
                 None => plan.number == 11,
             };
             assert!(same, "{name}: the two disagree");
+            let (time, verdict) = timed(|| library::check(&case, &outputs));
+            checks.push(time);
+            assert!(verdict.rule == 0 && verdict.profit == plan.profit, "{name}: the list does not pass");
         }
-        let ((p, pl), (q, ql)) = (summary(proved), summary(plain));
+        let ((p, pl), (q, ql), (c, cl)) = (summary(proved), summary(plain), summary(checks));
         let (ratio, least, steps) = (p / q, pl / ql, steps::count(&case, &outputs));
         println!(
-            "{name:<34} {p:>10.1} {pl:>10.1} {q:>10.1} {ql:>10.1} {ratio:>8.2} {least:>8.2} {steps:>10}"
+            "{name:<34} {p:>8.1} {pl:>8.1} {q:>8.1} {ql:>8.1} {ratio:>6.2} {least:>6.2} {steps:>9} {c:>6.1} {cl:>6.1}"
         );
     }
     println!("microseconds; median and least of {ROUNDS} rounds taken in turn; ratio proved / plain");

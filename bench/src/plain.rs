@@ -1,7 +1,7 @@
 //! The same recurrence as a plain programme with all the memory it wants: the worth of every state of every hour, the decision
 //! that earns it, and the largest over a window by a queue.
 
-use crate::library::Case;
+use giqapsun::Case;
 
 /// No list keeps the rules from here.
 const NONE: i64 = i64::MIN / 4;

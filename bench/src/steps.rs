@@ -1,7 +1,7 @@
 //! The row steps of a search, counted by the loops of crates `search` and `layers`.
 
-use crate::library::{Case, WORK};
 use crate::plain::locks;
+use giqapsun::{Case, WORK};
 
 /// Numbers of a layer beside its row.
 const SIDE: usize = 25;
