@@ -165,7 +165,6 @@ class BestFaults(ToolTest):
             self.assertIn("usage: case", message)
 
 
-@unittest.skipUnless(program(), "crates/best_day is not there yet")
 class Program(ToolTest):
     """The program itself on the stored cases and the known days."""
 
