@@ -1,5 +1,5 @@
-//! The proved search beside a plain programme of the same recurrence, in turn in one process: medians, least times and their ratio.
-//! No test rests on a time.
+//! The proved search beside a plain programme of the same recurrence, in turn in one process: medians,
+//! least times and their ratio. No test rests on a time.
 
 mod days;
 mod library;

@@ -1,5 +1,5 @@
-//! The same recurrence as a plain programme with all the memory it wants: the worth of every state of every hour, the decision
-//! that earns it, and the largest over a window by a queue.
+//! The same recurrence as a plain programme with all the memory it wants: the worth of every state of every
+//! hour, the decision that earns it, and the largest over a window by a queue.
 
 use giqapsun::Case;
 
