@@ -222,8 +222,8 @@ static struct giqapsun_case within_limits(struct bytes *bytes)
     c.mindown = within(bytes, 1, 8);
     c.variable = take8(bytes) % 2 == 0 ? within(bytes, 0, 100) : 15u * take16(bytes);
     c.fixed = take8(bytes) % 2 == 0 ? within(bytes, 0, 100) : 1500u * take16(bytes);
-    c.startup = take8(bytes) % 2 == 0 ? within(bytes, 0, 1000) : 1500u * take16(bytes);
-    c.shutdown = take8(bytes) % 2 == 0 ? within(bytes, 0, 1000) : 1500u * take16(bytes);
+    c.startcost = take8(bytes) % 2 == 0 ? within(bytes, 0, 1000) : 1500u * take16(bytes);
+    c.stopcost = take8(bytes) % 2 == 0 ? within(bytes, 0, 1000) : 1500u * take16(bytes);
     unsigned most = c.minimum < GIQAPSUN_STAGES ? c.minimum : GIQAPSUN_STAGES;
     c.rises = within(bytes, 1, most);
     c.falls = within(bytes, 1, most);

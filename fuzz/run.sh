@@ -1,5 +1,5 @@
 #!/usr/bin/env bash
-# fuzz/run.sh SECONDS: builds the fuzz target against libexports.a and runs it for so long, beginning with the
+# fuzz/run.sh SECONDS: builds the fuzz target against libgiqapsun.a and runs it for so long, beginning with the
 # files of cases/. Installs clang and its fuzzer library from Debian's packages if they are missing.
 # The library is that in the folder GIQAPSUN_LIB_DIR, or else in target/staticlib. Inputs that were kept, and
 # one that made a difference, are in target/fuzz. Not in the gate.
@@ -20,7 +20,7 @@ if fuzzer_is_missing; then
     apt-get install -y --no-install-recommends clang libclang-rt-14-dev
 fi
 clang -std=c99 -g -O1 -Wall -Wextra -fsanitize=fuzzer,address,undefined -fno-sanitize-recover=all \
-    -Iinclude fuzz/fuzz.c "$GIQAPSUN_LIB_DIR/libexports.a" -o $folder/fuzz
+    -Iinclude fuzz/fuzz.c "$GIQAPSUN_LIB_DIR/libgiqapsun.a" -o $folder/fuzz
 cp cases/*.case $folder/seeds/
 
 # a run starts from the seeds and from what earlier runs kept

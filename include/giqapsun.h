@@ -106,8 +106,8 @@ struct giqapsun_case {
     uint16_t mindown;  /* minimum down time, hours */
     uint32_t variable; /* F, mills per MWh */
     uint32_t fixed;    /* A, mills per on-line hour */
-    uint32_t startup;  /* B, mills per start */
-    uint32_t shutdown; /* C, mills per stop */
+    uint32_t startcost;  /* B, mills per start */
+    uint32_t stopcost; /* C, mills per stop */
     uint16_t initial;  /* p(0), MW */
     uint16_t elapsed;  /* h: hours on-line (p(0) above 0) or off-line (p(0) 0) before hour 1 */
     uint16_t rise[GIQAPSUN_STAGES];  /* PU, MW */

@@ -23,8 +23,8 @@ fn source(hours: usize) -> Case {
     case.mindown = 3;
     case.variable = 38_000;
     case.fixed = 100_000;
-    case.startup = 850_000;
-    case.shutdown = 56_000;
+    case.startcost = 850_000;
+    case.stopcost = 56_000;
     case.initial = 170;
     case.elapsed = 11;
     case.rise = [37, 75, 112, 0, 0, 0, 0, 0];
@@ -54,8 +54,8 @@ fn wide(ramp: u16, hours: usize) -> Case {
         mindown: 8,
         variable: 30_000,
         fixed: 100_000,
-        startup: 850_000,
-        shutdown: 56_000,
+        startcost: 850_000,
+        stopcost: 56_000,
         initial: 0,
         elapsed: 8,
         rise: [1, 0, 0, 0, 0, 0, 0, 0],

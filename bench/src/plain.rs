@@ -34,8 +34,8 @@ fn gain(case: &Case, k: usize, q: usize, p: usize) -> i64 {
     let margin = i64::from(case.prices[k]) - i64::from(case.variable);
     let charge = match (q, p) {
         (0, 0) => 0,
-        (_, 0) => 2 * i64::from(case.shutdown),
-        (0, _) => 2 * i64::from(case.fixed) + 2 * i64::from(case.startup),
+        (_, 0) => 2 * i64::from(case.stopcost),
+        (0, _) => 2 * i64::from(case.fixed) + 2 * i64::from(case.startcost),
         _ => 2 * i64::from(case.fixed),
     };
     margin * (q + p) as i64 - charge

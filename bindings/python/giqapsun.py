@@ -75,8 +75,8 @@ class Case:
     mindown: int = 0  # minimum down time, hours
     variable: int = 0  # F, mills per MWh
     fixed: int = 0  # A, mills per on-line hour
-    startup: int = 0  # B, mills per start
-    shutdown: int = 0  # C, mills per stop
+    startcost: int = 0  # B, mills per start
+    stopcost: int = 0  # C, mills per stop
     initial: int = 0  # p(0), MW
     elapsed: int = 0  # h, hours on-line or off-line before hour 1
     rise: list = field(default_factory=list)  # PU, MW
@@ -159,8 +159,8 @@ class _Case(ctypes.Structure):
         ("mindown", ctypes.c_uint16),
         ("variable", ctypes.c_uint32),
         ("fixed", ctypes.c_uint32),
-        ("startup", ctypes.c_uint32),
-        ("shutdown", ctypes.c_uint32),
+        ("startcost", ctypes.c_uint32),
+        ("stopcost", ctypes.c_uint32),
         ("initial", ctypes.c_uint16),
         ("elapsed", ctypes.c_uint16),
         ("rise", ctypes.c_uint16 * STAGES),

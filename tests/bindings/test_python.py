@@ -29,7 +29,7 @@ def known_days():
         name, initial, elapsed, mindown, prices, orders, asked, answer = map(str.strip, line.split("|"))
         yield name, Case(
             capacity=4, minimum=2, rampup=1, rampdown=1, minup=1, mindown=int(mindown),
-            variable=10, fixed=1, startup=3, shutdown=2, initial=int(initial), elapsed=int(elapsed),
+            variable=10, fixed=1, startcost=3, stopcost=2, initial=int(initial), elapsed=int(elapsed),
             rise=[1, 2], fall=[2, 1], prices=numbers(prices), orders=[ORDERS[w] for w in orders.split(",")],
         ), asked.split(), answer.split()
 

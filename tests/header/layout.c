@@ -53,8 +53,8 @@ int main(void)
     FIELD(case, mindown);
     FIELD(case, variable);
     FIELD(case, fixed);
-    FIELD(case, startup);
-    FIELD(case, shutdown);
+    FIELD(case, startcost);
+    FIELD(case, stopcost);
     FIELD(case, initial);
     FIELD(case, elapsed);
     ARRAY(case, rise);

@@ -2,7 +2,7 @@
 
 use std::env;
 
-/// With the feature, the folder in GIQAPSUN_LIB_DIR must hold libexports.a.
+/// With the feature, the folder in GIQAPSUN_LIB_DIR must hold libgiqapsun.a.
 fn main() {
     println!("cargo:rerun-if-changed=build.rs");
     println!("cargo:rerun-if-env-changed=GIQAPSUN_LIB_DIR");
@@ -10,8 +10,8 @@ fn main() {
         return;
     }
     let folder =
-        env::var("GIQAPSUN_LIB_DIR").expect("set GIQAPSUN_LIB_DIR to the folder that holds libexports.a");
-    println!("cargo:rerun-if-changed={folder}/libexports.a");
+        env::var("GIQAPSUN_LIB_DIR").expect("set GIQAPSUN_LIB_DIR to the folder that holds libgiqapsun.a");
+    println!("cargo:rerun-if-changed={folder}/libgiqapsun.a");
     println!("cargo:rustc-link-search=native={folder}");
-    println!("cargo:rustc-link-lib=static=exports");
+    println!("cargo:rustc-link-lib=static=giqapsun");
 }

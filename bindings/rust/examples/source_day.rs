@@ -20,10 +20,10 @@ fn earned(case: &Case, hour: usize, before: u16, output: u16) -> i64 {
         charges += i64::from(case.fixed);
     }
     if before == 0 && output > 0 {
-        charges += i64::from(case.startup);
+        charges += i64::from(case.startcost);
     }
     if before > 0 && output == 0 {
-        charges += i64::from(case.shutdown);
+        charges += i64::from(case.stopcost);
     }
     margin * (i64::from(before) + i64::from(output)) - 2 * charges
 }

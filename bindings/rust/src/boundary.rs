@@ -44,9 +44,9 @@ pub struct Case {
     /// A in mills per on-line hour.
     pub fixed: u32,
     /// B in mills per start.
-    pub startup: u32,
+    pub startcost: u32,
     /// C in mills per stop.
-    pub shutdown: u32,
+    pub stopcost: u32,
     /// p(0), the output before hour 1, in MW.
     pub initial: u16,
     /// h, the hours on-line (p(0) above 0) or off-line (p(0) 0) before hour 1.
@@ -79,8 +79,8 @@ impl Default for Case {
             mindown: 0,
             variable: 0,
             fixed: 0,
-            startup: 0,
-            shutdown: 0,
+            startcost: 0,
+            stopcost: 0,
             initial: 0,
             elapsed: 0,
             rise: [0; STAGES],

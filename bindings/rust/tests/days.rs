@@ -22,8 +22,8 @@ fn known_unit() -> Case {
         minup: 1,
         variable: 10,
         fixed: 1,
-        startup: 3,
-        shutdown: 2,
+        startcost: 3,
+        stopcost: 2,
         rises: 2,
         falls: 2,
         ..Case::default()

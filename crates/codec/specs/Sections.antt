@@ -37,8 +37,8 @@ assembled unit rise fall day =
       mindown = record { 0 = numberAt unit 10 2 };
       variable = numberAt unit 12 4;
       fixed = numberAt unit 16 4;
-      startup = numberAt unit 20 4;
-      shutdown = numberAt unit 24 4;
+      startcost = numberAt unit 20 4;
+      stopcost = numberAt unit 24 4;
       initial = record { 0 = numberAt unit 28 2 };
       elapsed = record { 0 = numberAt unit 30 2 };
       rise = rise .outputs;

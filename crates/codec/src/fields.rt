@@ -54,7 +54,7 @@ fn put_unit(case: Case, out: &mut [u8])
     put_pair(out, 20, case.rampup.0, case.rampdown.0);
     put_pair(out, 24, case.minup.0, case.mindown.0);
     put_longs(out, 28, case.variable, case.fixed);
-    put_longs(out, 36, case.startup, case.shutdown);
+    put_longs(out, 36, case.startcost, case.stopcost);
     put_pair(out, 44, case.initial.0, case.elapsed.0);
 }
 

@@ -72,7 +72,7 @@ fn refusal5(case: Case) -> bool
     ensures { λ r. ⌜ r ≡ refusal5 case ⌝ }
 {
     let charges = (case.fixed <= MOST_CHARGE)
-        & ((case.startup <= MOST_CHARGE) & (case.shutdown <= MOST_CHARGE));
+        & ((case.startcost <= MOST_CHARGE) & (case.stopcost <= MOST_CHARGE));
     !((case.variable <= MOST_VARIABLE) & charges)
 }
 

@@ -77,8 +77,8 @@ module _ (c : Case) (lim : Limits c) where
           hours-pos = lim .hours-pos;
           hours-le = lim .hours-le;
           holds-le = omega (arith, lim .fixed-le);
-          starts-le = omega (arith, lim .startup-le);
-          stops-le = omega (arith, lim .shutdown-le);
+          starts-le = omega (arith, lim .startcost-le);
+          stops-le = omega (arith, lim .stopcost-le);
           pu-pos = rise-pos;
           pu-le = rise-le;
           pd-le = fall-le;

@@ -39,8 +39,8 @@ pub struct Case {
     // F, in mills per megawatt-hour; A per on-line hour, B per start, C per stop, in mills
     pub variable: u32,
     pub fixed: u32,
-    pub startup: u32,
-    pub shutdown: u32,
+    pub startcost: u32,
+    pub stopcost: u32,
     // p(0), and h: the hours that the unit has been on-line or off-line before hour 1
     pub initial: Output,
     pub elapsed: Hour,

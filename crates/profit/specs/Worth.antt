@@ -15,5 +15,5 @@ pub record Priced (c : Case) : Type 0 where
   pub hours : c .hours ≤ mostHours
   pub variable : c .variable ≤ mostVariable
   pub fixed : c .fixed ≤ mostCharge
-  pub startup : c .startup ≤ mostCharge
-  pub shutdown : c .shutdown ≤ mostCharge
+  pub startcost : c .startcost ≤ mostCharge
+  pub stopcost : c .stopcost ≤ mostCharge

@@ -63,9 +63,9 @@ fn charge_at(case: Case, list: &[u16], k: usize) -> HalfMills
     ensures { λ r. ⌜ Worth (pos (charge case (now (list .entry)) k)) 600000000 (r .0) ⌝ }
 {
     let fixed = charged(case.fixed, online(case, list, k));
-    let startup = charged(case.startup, started(case, list, k));
-    let shutdown = charged(case.shutdown, stopped(case, list, k));
-    sum(fixed, sum(startup, shutdown))
+    let startcost = charged(case.startcost, started(case, list, k));
+    let stopcost = charged(case.stopcost, stopped(case, list, k));
+    sum(fixed, sum(startcost, stopcost))
 }
 
 // What the price of hour k, from 1, leaves above F.

@@ -19,6 +19,6 @@ module _ (c : Case) (e : refusalOf c ≡ 0) where
         hours = h .hours-le;
         variable = h .variable-le;
         fixed = h .fixed-le;
-        startup = h .startup-le;
-        shutdown = h .shutdown-le;
+        startcost = h .startcost-le;
+        stopcost = h .stopcost-le;
       }

@@ -43,23 +43,23 @@ returns c =
     let a = b .before .before in
     let args = a .before .before .before .args in
     let fixed = a .charged in
-    let startup = b .charged2 in
-    let shutdown = d .charged3 in
+    let startcost = b .charged2 in
+    let stopcost = d .charged3 in
     let is = c .sum2 .ensures ∙ ap (λ x. fixed .result .0 +ℤ x) (c .before .sum .ensures) in
     record {
-      is = is ∙ charge-of (args .case) (args .list .now) (args .k) (fixed .ensures .is) (startup .ensures .is)
-          (shutdown .ensures .is)
+      is = is ∙ charge-of (args .case) (args .list .now) (args .k) (fixed .ensures .is) (startcost .ensures .is)
+          (stopcost .ensures .is)
           (a .before .online .ensures .is)
           (b .before .started .ensures .is)
           (d .before .stopped .ensures .is);
       most = omega (
         arith,
         ap natAbs is,
-        abs-+ (fixed .result .0) (startup .result .0 +ℤ shutdown .result .0),
-        abs-+ (startup .result .0) (shutdown .result .0),
+        abs-+ (fixed .result .0) (startcost .result .0 +ℤ stopcost .result .0),
+        abs-+ (startcost .result .0) (stopcost .result .0),
         fixed .ensures .most,
-        startup .ensures .most,
-        shutdown .ensures .most,
+        startcost .ensures .most,
+        stopcost .ensures .most,
       );
     }
 

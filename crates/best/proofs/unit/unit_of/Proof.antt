@@ -62,7 +62,7 @@ cast-t21 c =
       arith,
       limits-of-refusalOf _
           (c .before .before .before .before .before .before .before .before .before .before .before .before .before .before
-          .before .before .before .before .pre) .startup-le,
+          .before .before .before .before .pre) .startcost-le,
     )
 
 mul-t22 : tie.Need-mul-t22
@@ -71,7 +71,7 @@ mul-t22 c =
       arith,
       limits-of-refusalOf _
           (c .before .before .before .before .before .before .before .before .before .before .before .before .before .before
-          .before .before .before .before .pre) .startup-le,
+          .before .before .before .before .pre) .startcost-le,
     )
 
 cast-t23 : tie.Need-cast-t23
@@ -80,7 +80,7 @@ cast-t23 c =
       arith,
       limits-of-refusalOf _
           (c .before .before .before .before .before .before .before .before .before .before .before .before .before .before
-          .before .before .before .before .before .pre) .shutdown-le,
+          .before .before .before .before .before .pre) .stopcost-le,
     )
 
 mul-t24 : tie.Need-mul-t24
@@ -89,7 +89,7 @@ mul-t24 c =
       arith,
       limits-of-refusalOf _
           (c .before .before .before .before .before .before .before .before .before .before .before .before .before .before
-          .before .before .before .before .before .pre) .shutdown-le,
+          .before .before .before .before .before .pre) .stopcost-le,
     )
 
 returns : tie.Need-returns
@@ -124,8 +124,8 @@ returns c =
         falls = case .falls;
         hours = case .hours;
         holds = 2 * case .fixed;
-        starts = 2 * case .startup;
-        stops = 2 * case .shutdown;
+        starts = 2 * case .startcost;
+        stops = 2 * case .stopcost;
         pu = pu i;
         pd = pd i;
         margins = margins i;

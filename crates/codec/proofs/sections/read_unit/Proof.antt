@@ -55,8 +55,8 @@ returns c =
       mindown = record { 0 = m .before .word6 .ensures i };
       variable = m .long .ensures i;
       fixed = c .before .before .before .before .long2 .ensures i;
-      startup = c .before .before .before .long3 .ensures i;
-      shutdown = c .before .before .long4 .ensures i;
+      startcost = c .before .before .before .long3 .ensures i;
+      stopcost = c .before .before .long4 .ensures i;
       initial = record { 0 = c .before .word7 .ensures i };
       elapsed = record { 0 = c .word8 .ensures i };
       rise = s .args .rise .outputs;

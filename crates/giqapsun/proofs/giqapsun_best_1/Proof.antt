@@ -1,11 +1,11 @@
--- `exports::giqapsun_best` meets its contract: an admitted record is searched as it stands. Assumes nothing.
+-- `giqapsun::giqapsun_best_1` meets its contract: an admitted record is searched as it stands. Assumes nothing.
 use borrow.Author.Needs.{needs}
 use mathlib.Core.Path.{_∙_, ap}
 use Rattle.model.specs.Answers.{scheduleOf}
 use Rattle.model.proofs.AdmitLaws.{schedule-admitted}
-use Rattle.exports.specs.Boundary.{planOut}
-use Rattle.exports.proofs.giqapsun_best.Statement.{statement}
-use Rattle.exports.proofs.giqapsun_best.Tie as tie
+use Rattle.giqapsun.specs.Boundary.{planOut}
+use Rattle.giqapsun.proofs.giqapsun_best_1.Statement.{statement}
+use Rattle.giqapsun.proofs.giqapsun_best_1.Tie as tie
 
 admit-requires : tie.Need-admit-requires
 admit-requires c κs = search needs
@@ -35,7 +35,7 @@ returns c =
       (d .1 .0 ∙ ap (λ s. s .work) e, d .1 .1 ∙ ap (λ s. s .outputs) e),
     )
 
-pub giqapsun-best-spec : {M : Type 1} → statement M
-giqapsun-best-spec =
+pub giqapsun-best-1-spec : {M : Type 1} → statement M
+giqapsun-best-1-spec =
     tie.close
     (tie.spec admit-requires schedule-requires plan-out-requires same-length same-length-2 returns)

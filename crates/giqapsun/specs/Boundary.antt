@@ -6,10 +6,10 @@ use Rattle.model.specs.declared.Verdict.{Verdict}
 use Rattle.model.specs.declared.Plan.{Plan}
 use Rattle.model.specs.Answers.{outcomeNumber, writtenNumber, writtenLength}
 use Rattle.model.specs.Answers.{verdictNumber, verdictHour, verdictRule, verdictProfit, planNumber, planProfit}
-use Rattle.exports.specs.declared.GiqapsunReading.{GiqapsunReading}
-use Rattle.exports.specs.declared.GiqapsunWritten.{GiqapsunWritten}
-use Rattle.exports.specs.declared.GiqapsunVerdict.{GiqapsunVerdict}
-use Rattle.exports.specs.declared.GiqapsunPlan.{GiqapsunPlan}
+use Rattle.giqapsun.specs.declared.GiqapsunReading.{GiqapsunReading}
+use Rattle.giqapsun.specs.declared.GiqapsunWritten.{GiqapsunWritten}
+use Rattle.giqapsun.specs.declared.GiqapsunVerdict.{GiqapsunVerdict}
+use Rattle.giqapsun.specs.declared.GiqapsunPlan.{GiqapsunPlan}
 
 abbrev pub readingOut : Reading → GiqapsunReading
 readingOut r = record { number = outcomeNumber (r .outcome); case = r .case }

@@ -1,9 +1,9 @@
--- `exports::plan_out` meets its contract, case by case. Assumes nothing.
+-- `giqapsun::plan_out` meets its contract, case by case. Assumes nothing.
 use borrow.Author.Needs.{needs}
 use mathlib.Core.Path.{ap, sym}
-use Rattle.exports.specs.Boundary.{planOut}
-use Rattle.exports.proofs.plan_out.Statement.{statement}
-use Rattle.exports.proofs.plan_out.Tie as tie
+use Rattle.giqapsun.specs.Boundary.{planOut}
+use Rattle.giqapsun.proofs.plan_out.Statement.{statement}
+use Rattle.giqapsun.proofs.plan_out.Tie as tie
 
 enum-known-plan : tie.Need-enum-known-plan
 enum-known-plan c = search needs

@@ -10,7 +10,7 @@ use model::Written;
 ghost use mathlib.Core.Path.{_≡_};
 ghost use Rattle.model.specs.declared.Outcome.the-variants.{Accepted};
 ghost use Rattle.model.specs.Answers.{outcomeNumber, readOf, writeOf, checkOf, scheduleOf};
-ghost use Rattle.exports.specs.Boundary.{readingOut, writtenOut, verdictOut, planOut};
+ghost use Rattle.giqapsun.specs.Boundary.{readingOut, writtenOut, verdictOut, planOut};
 
 // The number of a refusal, or 0, and the record: zeros beside a refusal.
 #[repr(C)]
@@ -113,7 +113,7 @@ fn plan_out(plan: Plan) -> GiqapsunPlan
 
 // Reads a case file.
 #[no_mangle]
-pub extern "C" fn giqapsun_read(file: &[u8]) -> GiqapsunReading
+pub extern "C" fn giqapsun_read_1(file: &[u8]) -> GiqapsunReading
     ensures { λ r. ⌜ r ≡ readingOut (readOf (now (file .entry))) ⌝ }
 {
     reading_out(codec::read(file))
@@ -122,7 +122,7 @@ pub extern "C" fn giqapsun_read(file: &[u8]) -> GiqapsunReading
 // Writes the file of a record to the front of the lent bytes; those past it, and all of them on a refusal, stay as
 // they are.
 #[no_mangle]
-pub extern "C" fn giqapsun_write(case: Case, bytes: &mut [u8]) -> GiqapsunWritten
+pub extern "C" fn giqapsun_write_1(case: Case, bytes: &mut [u8]) -> GiqapsunWritten
     ensures answer { λ r. ⌜ r ≡ writtenOut ((writeOf case (now (bytes .entry))) .answer) ⌝ }
     ensures lent { λ _. ⌜ now (bytes .exit) ≡ (writeOf case (now (bytes .entry))) .lent ⌝ }
 {
@@ -131,7 +131,7 @@ pub extern "C" fn giqapsun_write(case: Case, bytes: &mut [u8]) -> GiqapsunWritte
 
 // The verdict of a list with a record.
 #[no_mangle]
-pub extern "C" fn giqapsun_check(case: Case, list: &[u16]) -> GiqapsunVerdict
+pub extern "C" fn giqapsun_check_1(case: Case, list: &[u16]) -> GiqapsunVerdict
     ensures { λ r. ⌜ r ≡ verdictOut (checkOf Accepted case (now (list .entry))) ⌝ }
 {
     verdict_out(rules::check(codec::admit(case), list))
@@ -140,7 +140,7 @@ pub extern "C" fn giqapsun_check(case: Case, list: &[u16]) -> GiqapsunVerdict
 // The best list of a record, in the first outputs; the first working numbers are zeroed. Nothing is changed on 2 to 8
 // and on 10.
 #[no_mangle]
-pub extern "C" fn giqapsun_best(case: Case, work: &mut [i64], outputs: &mut [u16]) -> GiqapsunPlan
+pub extern "C" fn giqapsun_best_1(case: Case, work: &mut [i64], outputs: &mut [u16]) -> GiqapsunPlan
     ensures answer { λ r. ⌜ r ≡ planOut ((scheduleOf Accepted case (now (work .entry)) (now (outputs .entry))) .answer) ⌝ }
     ensures work { λ _. ⌜ now (work .exit) ≡ (scheduleOf Accepted case (now (work .entry)) (now (outputs .entry))) .work ⌝ }
     ensures outputs { λ _. ⌜ now (outputs .exit) ≡ (scheduleOf Accepted case (now (work .entry)) (now (outputs .entry))) .outputs ⌝ }

@@ -1,7 +1,7 @@
--- `exports::reading_out` meets its contract. Assumes nothing.
+-- `giqapsun::reading_out` meets its contract. Assumes nothing.
 use borrow.Author.Needs.{needs}
-use Rattle.exports.proofs.reading_out.Statement.{statement}
-use Rattle.exports.proofs.reading_out.Tie as tie
+use Rattle.giqapsun.proofs.reading_out.Statement.{statement}
+use Rattle.giqapsun.proofs.reading_out.Tie as tie
 
 number-out-requires : tie.Need-number-out-requires
 number-out-requires c κs = search needs

@@ -1,9 +1,9 @@
--- `exports::verdict_out` meets its contract, case by case. Assumes nothing.
+-- `giqapsun::verdict_out` meets its contract, case by case. Assumes nothing.
 use borrow.Author.Needs.{needs}
 use mathlib.Core.Path.{ap, sym}
-use Rattle.exports.specs.Boundary.{verdictOut}
-use Rattle.exports.proofs.verdict_out.Statement.{statement}
-use Rattle.exports.proofs.verdict_out.Tie as tie
+use Rattle.giqapsun.specs.Boundary.{verdictOut}
+use Rattle.giqapsun.proofs.verdict_out.Statement.{statement}
+use Rattle.giqapsun.proofs.verdict_out.Tie as tie
 
 enum-known-verdict : tie.Need-enum-known-verdict
 enum-known-verdict c = search needs

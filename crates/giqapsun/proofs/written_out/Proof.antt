@@ -1,9 +1,9 @@
--- `exports::written_out` meets its contract, case by case. Assumes nothing.
+-- `giqapsun::written_out` meets its contract, case by case. Assumes nothing.
 use borrow.Author.Needs.{needs}
 use mathlib.Core.Path.{ap, sym}
-use Rattle.exports.specs.Boundary.{writtenOut}
-use Rattle.exports.proofs.written_out.Statement.{statement}
-use Rattle.exports.proofs.written_out.Tie as tie
+use Rattle.giqapsun.specs.Boundary.{writtenOut}
+use Rattle.giqapsun.proofs.written_out.Statement.{statement}
+use Rattle.giqapsun.proofs.written_out.Tie as tie
 
 enum-known-written : tie.Need-enum-known-written
 enum-known-written c = search needs
