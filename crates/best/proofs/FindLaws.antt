@@ -12,7 +12,7 @@ use Rattle.model.specs.declared.Case.{Case}
 use Rattle.model.specs.declared.Plan.the-variants.{Found as Planned, Refused}
 use Rattle.model.specs.Limits.{workLength}
 use Rattle.model.specs.Profit.{profitOf}
-use Rattle.model.specs.Best.{bestOf}
+use Rattle.model.specs.Best.{bestDay}
 use Rattle.model.specs.Refusals.{refusalOf}
 use Rattle.model.specs.Answers.{Scheduling, cleared, planned}
 use Rattle.machine.specs.Coded.{missing, coded}
@@ -32,34 +32,34 @@ amount-above v (amount b) = low (2 ^ 42) (omega arith) v b
 module _ (c : Case) (e : refusalOf c ≡ 0) (fit : Fit (unitOf c)) (work : List ℤ) (ys zs : List ℕ) (z : ℤ)
     (found : Found (unitOf c) (openingOf c) ys zs z) where
   -- the number tells whether there is a list
-  present : (l : List ℕ) → bestOf c ≡ some l → leZ z missing ≡ false
+  present : (l : List ℕ) → bestDay c ≡ some l → leZ z missing ≡ false
   present l b =
       let w = worth-profit c e l b in
       rw (found .profit ∙ ap coded w)
       (amount-above (profitOf c l) (subst (Bounded (2 ^ 42)) w (worth-size (unitOf c) fit 0 (openingOf c))))
 
-  absent : bestOf c ≡ none → leZ z missing ≡ true
+  absent : bestDay c ≡ none → leZ z missing ≡ true
   absent b = rw (found .profit ∙ ap coded (worth-none c e b)) refl
 
   -- what is left, where the number says that there is none
   pub find-none : leZ z missing ≡ true
-      → (Refused 11 ≡ planned c work ys (bestOf c) .answer) × (zs ≡ planned c work ys (bestOf c) .outputs)
+      → (Refused 11 ≡ planned c work ys (bestDay c) .answer) × (zs ≡ planned c work ys (bestDay c) .outputs)
   unfolding planned
-  find-none t = go (bestOf c) refl
+  find-none t = go (bestDay c) refl
     where
-      go : (r : Option (List ℕ)) → bestOf c ≡ r → (Refused 11 ≡ planned c work ys r .answer) ×
+      go : (r : Option (List ℕ)) → bestDay c ≡ r → (Refused 11 ≡ planned c work ys r .answer) ×
           (zs ≡ planned c work ys r .outputs)
       go none d = (refl, found .list ∙ ap (maybe ys _) (worth-none c e d))
       go (some l) d = absurd (true≢false (sym t ∙ present l d))
 
   -- and where it is a profit
   pub find-some : leZ z missing ≡ false
-      → (Planned (record { 0 = z }) ≡ planned c work ys (bestOf c) .answer) ×
-      (zs ≡ planned c work ys (bestOf c) .outputs)
+      → (Planned (record { 0 = z }) ≡ planned c work ys (bestDay c) .answer) ×
+      (zs ≡ planned c work ys (bestDay c) .outputs)
   unfolding planned unitOf
-  find-some t = go (bestOf c) refl
+  find-some t = go (bestDay c) refl
     where
-      go : (r : Option (List ℕ)) → bestOf c ≡ r
+      go : (r : Option (List ℕ)) → bestDay c ≡ r
           → (Planned (record { 0 = z }) ≡ planned c work ys r .answer) × (zs ≡ planned c work ys r .outputs)
       go none d = absurd (true≢false (sym (absent d) ∙ t))
       go (some l) d =
@@ -70,9 +70,9 @@ module _ (c : Case) (e : refusalOf c ≡ 0) (fit : Fit (unitOf c)) (work : List 
             found .list ∙ ap (maybe ys _) w ∙ ap (λ x. x ++ drop (c .hours) ys) plan ∙ ap (λ n. l ++ drop n ys) long,
           )
 
-  pub find-work : planned c work ys (bestOf c) .work ≡ cleared workLength work
+  pub find-work : planned c work ys (bestDay c) .work ≡ cleared workLength work
   unfolding planned
-  find-work = go (bestOf c)
+  find-work = go (bestDay c)
     where
       go : (r : Option (List ℕ)) → planned c work ys r .work ≡ cleared workLength work
       go none = refl

@@ -1,6 +1,6 @@
 // The best day of a case in lent memory: its list in the first outputs, its profit, and the working numbers zeroed; 11
 // exactly where no list keeps every rule. What is answered and left for every input is model's specs/Answers,
-// `scheduleOf`; the best list is `bestOf` of model's specs/Best. A case outside the limits is refused by 2 to 8, memory
+// `scheduleOf`; the best list is `bestDay` of model's specs/Best. A case outside the limits is refused by 2 to 8, memory
 // that is too short by 10, and nothing is changed then.
 mod unit;
 mod wipe;
@@ -17,7 +17,7 @@ ghost use mathlib.Core.Path.{_≡_};
 ghost use Prim.Native.Nat.{_≤_};
 ghost use lib.ListN.{length, drop};
 ghost use Rattle.model.specs.Limits.{workLength};
-ghost use Rattle.model.specs.Best.{bestOf};
+ghost use Rattle.model.specs.Best.{bestDay};
 ghost use Rattle.model.specs.Refusals.{refusalOf, refusal10};
 ghost use Rattle.model.specs.Answers.{outcomeNumber, planned, scheduleOf};
 ghost use Rattle.machine.specs.Fit.{Fit};
@@ -50,11 +50,11 @@ fn search_first(u: Unit, s: State, work: &mut [i64], outputs: &mut [u16]) -> Hal
 fn find(case: Case, work: &mut [i64], outputs: &mut [u16]) -> Plan
     requires { ⌜ refusalOf case ≡ 0 ⌝ }
     requires { ⌜ (workLength ≤ length (now work)) × (case .hours ≤ length (now outputs)) ⌝ }
-    ensures answer { λ r. ⌜ r ≡ (planned case (now (work .entry)) (now (outputs .entry)) (bestOf case)) .answer ⌝ }
+    ensures answer { λ r. ⌜ r ≡ (planned case (now (work .entry)) (now (outputs .entry)) (bestDay case)) .answer ⌝ }
     ensures work { λ _. ⌜ now (work .exit)
-        ≡ (planned case (now (work .entry)) (now (outputs .entry)) (bestOf case)) .work ⌝ }
+        ≡ (planned case (now (work .entry)) (now (outputs .entry)) (bestDay case)) .work ⌝ }
     ensures outputs { λ _. ⌜ now (outputs .exit)
-        ≡ (planned case (now (work .entry)) (now (outputs .entry)) (bestOf case)) .outputs ⌝ }
+        ≡ (planned case (now (work .entry)) (now (outputs .entry)) (bestDay case)) .outputs ⌝ }
 {
     let unit = unit::unit_of(case);
     let opening = unit::opening_of(case);

@@ -15,12 +15,12 @@ use Rattle.laws.proofs.Tests.{T→true}
 use Rattle.model.specs.declared.Case.{Case}
 use Rattle.model.specs.Rules.{keeps}
 use Rattle.model.specs.Profit.{profitOf}
-use Rattle.model.specs.Best.{lower, leads, Best, bestOf}
+use Rattle.model.specs.Best.{lower, leads, Best, bestDay}
 use Rattle.model.specs.Refusals.{refusalOf}
 use Rattle.model.proofs.KeepsLaws.{kept-length}
 use Rattle.model.proofs.LimitsLaws.{Limits, limits-of-refusalOf}
 use Rattle.model.proofs.LeadsLaws.{lower-less, lower-same, leads-more, leads-lower}
-use Rattle.model.proofs.BestLaws.{bestOf-some, bestOf-none}
+use Rattle.model.proofs.BestLaws.{bestDay-some, bestDay-none}
 use Rattle.machine.specs.Search.{maybe, outcome, value, plan, search, planAt}
 use Rattle.machine.specs.Order.{_⊑_, AtLeast, earnsMore, sameAndLower, Answers}
 use Rattle.machine.specs.Moves.{obeys, move, machine, worth}
@@ -53,11 +53,11 @@ module _ (c : Case) (accepted : refusalOf c ≡ 0) where
       (keeps c) (profitOf c) (openingOf c) (outcome-earned c lim)
 
   tops-of-least : (l m : List ℕ) → length l ≡ length m → AtLeast (profitOf c l) l (profitOf c m) m
-      → (m ≡ l) ⊎ T (leads c l m)
-  tops-of-least l m n (earnsMore h) = inr (leads-more c l m h)
-  tops-of-least l m n (sameAndLower e h) = ⊎-map (λ d. d) (leads-lower c l m (omega linear)) (lower-of-⊑ l m n h)
+      → (m ≡ l) ⊎ T (leads (profitOf c) l m)
+  tops-of-least l m n (earnsMore h) = inr (leads-more (profitOf c) l m h)
+  tops-of-least l m n (sameAndLower e h) = ⊎-map (λ d. d) (leads-lower (profitOf c) l m (omega linear)) (lower-of-⊑ l m n h)
 
-  best-of-first : (l : List ℕ) → Rattle.machine.specs.Order.Best (keeps c) (profitOf c) l → Best c l
+  best-of-first : (l : List ℕ) → Rattle.machine.specs.Order.Best (keeps c) (profitOf c) l → Best (keeps c) (profitOf c) l
   best-of-first l b =
       record {
         kept = b .kept;
@@ -66,19 +66,19 @@ module _ (c : Case) (accepted : refusalOf c ≡ 0) where
 
 -- what the search finds is the best list; where it finds none, no list keeps every rule
 pub search-is-best : (c : Case) → refusalOf c ≡ 0
-    → ((l : List ℕ) → search (machine (unitOf c)) (openingOf c) ≡ some l → Best c l)
+    → ((l : List ℕ) → search (machine (unitOf c)) (openingOf c) ≡ some l → Best (keeps c) (profitOf c) l)
     × (search (machine (unitOf c)) (openingOf c) ≡ none → (l : List ℕ) → T (keeps c l) → ⊥)
 search-is-best c e = (
   λ l found. best-of-first c e l (subst (Answers (keeps c) (profitOf c)) found (answers c e)),
   λ missing. subst (Answers (keeps c) (profitOf c)) missing (answers c e),
 )
 
-pub search-bestOf : (c : Case) → refusalOf c ≡ 0 → search (machine (unitOf c)) (openingOf c) ≡ bestOf c
-search-bestOf c e = go (search (machine (unitOf c)) (openingOf c)) refl
+pub search-bestDay : (c : Case) → refusalOf c ≡ 0 → search (machine (unitOf c)) (openingOf c) ≡ bestDay c
+search-bestDay c e = go (search (machine (unitOf c)) (openingOf c)) refl
   where
-    go : (x : Option (List ℕ)) → search (machine (unitOf c)) (openingOf c) ≡ x → x ≡ bestOf c
-    go none d = sym (bestOf-none c e (search-is-best c e .1 d))
-    go (some l) d = sym (bestOf-some c e (search-is-best c e .0 l d))
+    go : (x : Option (List ℕ)) → search (machine (unitOf c)) (openingOf c) ≡ x → x ≡ bestDay c
+    go none d = sym (bestDay-none c e (search-is-best c e .1 d))
+    go (some l) d = sym (bestDay-some c e (search-is-best c e .0 l d))
 
 -- ---- the worth of the opening, and its plan
 -- a search that finds a list finds the plan, and one that finds none has no value
@@ -91,7 +91,7 @@ missed none m e = refl
 missed (some v) m e = absurd (some-none e)
 
 module _ (c : Case) (accepted : refusalOf c ≡ 0) where
-  module _ (l : List ℕ) (best : bestOf c ≡ some l) where
+  module _ (l : List ℕ) (best : bestDay c ≡ some l) where
     pub plan-best : plan (machine (unitOf c)) 0 (c .hours) (openingOf c) ≡ l
     unfolding unitOf
     plan-best =
@@ -99,10 +99,10 @@ module _ (c : Case) (accepted : refusalOf c ≡ 0) where
         (value (machine (unitOf c)) 0 (c .hours) (openingOf c))
         (plan (machine (unitOf c)) 0 (c .hours) (openingOf c))
         l
-        (search-bestOf c accepted ∙ best)
+        (search-bestDay c accepted ∙ best)
 
     kept : T (keeps c l)
-    kept = search-is-best c accepted .0 l (search-bestOf c accepted ∙ best) .kept
+    kept = search-is-best c accepted .0 l (search-bestDay c accepted ∙ best) .kept
 
     -- what the opening is worth is what the best list earns
     pub value-profit : value (machine (unitOf c)) 0 (c .hours) (openingOf c) ≡ some (profitOf c l)
@@ -124,11 +124,11 @@ module _ (c : Case) (accepted : refusalOf c ≡ 0) where
     length-planAt = ap length planAt-best ∙ kept-length c l kept
 
   -- no worth, where there is no list
-  pub worth-none : bestOf c ≡ none → worth (unitOf c) 0 (openingOf c) ≡ none
+  pub worth-none : bestDay c ≡ none → worth (unitOf c) 0 (openingOf c) ≡ none
   unfolding unitOf
   worth-none e =
       worth-zero (machine (unitOf c)) (openingOf c)
       ∙ missed
       (value (machine (unitOf c)) 0 (c .hours) (openingOf c))
       (plan (machine (unitOf c)) 0 (c .hours) (openingOf c))
-      (search-bestOf c accepted ∙ e)
+      (search-bestDay c accepted ∙ e)
