@@ -1,3 +1,2 @@
--- Laws of the crate's own definitions, and the round trip.
+-- Laws of the crate's own definitions.
 pub mod SectionsLaws
-pub mod RoundTrip

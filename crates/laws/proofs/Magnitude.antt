@@ -1,12 +1,10 @@
 -- Magnitudes: what bounds a sum, a difference and a multiple, when a number fits 64 bits, and what an operation of
 -- the machine on such numbers is. Assumes nothing.
-use mathlib.Core.Path.{_≡_, refl, sym, ap, _∙_}
+use mathlib.Core.Path.{_≡_, refl}
 use Prim.Native.Nat.{ℕ, zero, suc, _+_, _*_, _≤_, _<_, _^_}
-use native.Mathlib.Nat.{mul-le-mul, zero-mul}
+use native.Mathlib.Nat.{mul-le-mul}
 use native.Mathlib.Omega.{arith}
-use lib.Dec.{le→leb}
 use lib.IntN.{ℤ, pos, negsuc, negℤ, natAbs, _+ℤ_, _-ℤ_, _*ℤ_}
-use lib.Signed.{_≤ℤ_}
 use mir.Syntax.{w64}
 use mir.Val.{SFits, toZ, ofZ}
 use mir.Facts.{toZ-ofZ}
@@ -48,10 +46,6 @@ abs-*-le a h l = rw abs-* (mul-le-mul h l)
 pub fits-of-abs : (z : ℤ) → natAbs z < 2 ^ 63 → SFits w64 z
 fits-of-abs (pos n) h = record { sfits = omega arith }
 fits-of-abs (negsuc n) h = record { sfits = omega arith }
-
-pub floor-of-abs : (z : ℤ) (m : ℕ) → natAbs z ≤ suc m → negsuc m ≤ℤ z
-floor-of-abs (pos n) m h = record { le = tt }
-floor-of-abs (negsuc n) m h = record { le = le→leb n m (omega arith) }
 
 -- a signed operation of the machine goes by the numbers' bits: where all three numbers fit, it is the operation of ℤ
 module _ (op : ℤ → ℤ → ℤ) {a b : ℤ} (fa : SFits w64 a) (fb : SFits w64 b) (fit : SFits w64 (op a b)) where

@@ -8,7 +8,7 @@ use native.Mathlib.Nat.{eq-or-lt-of-le, not-suc-le-zero, le-of-suc-le-suc}
 use native.Mathlib.Numerals.{add-one}
 use lib.ListN.{length, getD, set, drop, replicate, length-set}
 use lib.Seq.{getD-set-same, getD-set-other}
-use Rattle.laws.specs.Placed.{Outside, Part}
+use Rattle.laws.specs.Placed.{Part}
 
 module _ {A : Type 0} (d : A) where
   pub part-start : (xs : List A) (at a b : ℕ) (v : ℕ → A) → b ≤ a → Part d xs xs at a b v

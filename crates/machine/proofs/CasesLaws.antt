@@ -14,7 +14,7 @@ use Rattle.model.specs.Limits.{mostStages, mostHours}
 use Rattle.model.specs.Symbols.{UD, DD, PU, PD, F, last, price, order}
 use Rattle.model.specs.Layout.{padded, noOutput}
 use Rattle.model.proofs.LimitsLaws.{Limits}
-use Rattle.model.proofs.TimesLaws.{Ordered}
+use Rattle.model.specs.Words.{Ordered}
 use Rattle.model.proofs.LayoutLaws.{length-padded, getD-padded-in, getD-padded-past}
 use Rattle.model.proofs.SymbolsLaws.{stage-suc, hourly-suc}
 use Rattle.machine.specs.Moves.{obeys}
@@ -92,4 +92,4 @@ module _ (c : Case) where
     unfolding obeys
     ordered-of-obeys k q h e =
         let (a, b) = of-allows (order c (suc k)) q (rw (order-at k h) at e) in
-        record { on-line = a; off-line = b }
+        record { on-line = a; off-line = b; known = lim .order-le (suc k) (omega arith) h }

@@ -18,7 +18,7 @@ use Rattle.machine.specs.declared.State.the-variants.{Off, Run}
 use Rattle.machine.specs.Cases.{unitOf, openingOf}
 use Rattle.machine.specs.Fit.{Fit}
 use Rattle.machine.specs.Proper.{Proper}
-use Rattle.machine.proofs.Stages.{pu-le, pd-le, pd-lt}
+use Rattle.model.proofs.Automaton.Stages.{pu-le, pd-le, pd-lt}
 use Rattle.machine.proofs.CasesLaws.{pu-past, pd-past, pu-at, pd-at, margin-past, margin-at}
 
 module _ (c : Case) (lim : Limits c) where

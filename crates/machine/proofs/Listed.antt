@@ -11,12 +11,12 @@ use lib.ListN.{length}
 use Rattle.model.specs.declared.Case.{Case}
 use Rattle.model.specs.Symbols.{last}
 use Rattle.model.proofs.LimitsLaws.{Limits}
-use Rattle.model.proofs.TimesLaws.{Ordered}
+use Rattle.model.specs.Words.{Ordered}
 use Rattle.machine.specs.declared.State.{State}
 use Rattle.machine.specs.Search.{maybe, only, add, outcome}
 use Rattle.machine.specs.Moves.{obeys, earn, output, move, closing, machine}
 use Rattle.machine.specs.Cases.{unitOf}
-use Rattle.machine.specs.Automaton.{St, off, up, run, down, Runs, Final}
+use Rattle.model.specs.Automaton.{St, off, up, run, down, Runs, Final}
 use Rattle.machine.specs.Image.{image, Good, profitFrom}
 use Rattle.machine.proofs.Searched.{some-none}
 use Rattle.machine.proofs.Sizes.{only-some}

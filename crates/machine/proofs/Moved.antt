@@ -16,8 +16,8 @@ use Rattle.machine.specs.declared.State.{State}
 use Rattle.machine.specs.declared.State.the-variants.{Off, Rise, Run, Fall}
 use Rattle.machine.specs.Moves.{risen, fallen, sunk, ramped, leaves, move}
 use Rattle.machine.specs.Cases.{unitOf}
-use Rattle.machine.specs.Automaton.{St, off, up, run, down, Step, stay, start, start1, climb, reach, hold, leave}
-use Rattle.machine.specs.Automaton.{leave1, sink, land}
+use Rattle.model.specs.Automaton.{St, off, up, run, down, Step, stay, start, start1, climb, reach, hold, leave}
+use Rattle.model.specs.Automaton.{leave1, sink, land}
 use Rattle.machine.specs.Image.{image, Good}
 use Rattle.machine.proofs.Sizes.{only-some}
 use Rattle.machine.proofs.Follows.{follow-stay, follow-start, follow-rise, follow-run, follow-leave, follow-fall}

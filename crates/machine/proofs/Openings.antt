@@ -19,9 +19,9 @@ use Rattle.machine.specs.Search.{outcome}
 use Rattle.machine.specs.Order.{earned}
 use Rattle.machine.specs.Moves.{output, machine}
 use Rattle.machine.specs.Cases.{unitOf, openingOf}
-use Rattle.machine.specs.Automaton.{first}
+use Rattle.model.specs.Automaton.{first}
 use Rattle.machine.specs.Image.{image, Good, profitFrom}
-use Rattle.machine.proofs.Keeping.{runs-of-keeps, keeps-of-runs}
+use Rattle.model.proofs.Automaton.Keeping.{keeps-runs}
 use Rattle.machine.proofs.Listed.{runs-profit, runs-of-earned}
 use Rattle.machine.proofs.Profits.{profitFrom-profitOf}
 
@@ -52,7 +52,7 @@ module _ (c : Case) where
 
     outcome-of-keeps : T (keeps c l) → Outcome ≡ some (profitOf c l)
     outcome-of-keeps t =
-        let (r, n) = runs-of-keeps c l lim t in
+        let (n, r) = keeps-runs c l lim .0 t in
         let gain = runs-profit c lim l 0 (first c (p0 c)) (omega arith) (good-first lim) r in
         subst (λ k. outcome (machine (unitOf c)) 0 k (image c (first c (p0 c))) l ≡ some (profitOf c l)) n
         (gain
@@ -62,7 +62,7 @@ module _ (c : Case) where
     keeps-of-outcome : (v : ℤ) → Outcome ≡ some v → T (keeps c l)
     keeps-of-outcome v e =
         let (r, n) = runs-of-earned c lim l (last c) 0 (first c (p0 c)) v (omega arith) (good-first lim) e in
-        keeps-of-runs c l lim r n
+        keeps-runs c l lim .1 (n, r)
 
     pub outcome-earned : outcome (machine (unitOf c)) 0 (last c) (openingOf c) l ≡ earned (keeps c) (profitOf c) l
     outcome-earned =

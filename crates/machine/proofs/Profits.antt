@@ -16,12 +16,12 @@ use Rattle.model.specs.Profit.{profitAt, profitTo, profitOf}
 use Rattle.model.proofs.LimitsLaws.{Limits}
 use Rattle.model.proofs.MarksLaws.{p-zero, p-suc}
 use Rattle.model.proofs.ProfitLaws.{energy-is, charge-is, profitAt-is, profitTo-none, profitTo-more, profitOf-is}
-use Rattle.machine.specs.Hours.{on, rise}
+use Rattle.model.proofs.Automaton.Hours.{on, rise}
 use Rattle.machine.specs.Moves.{charge, earn}
 use Rattle.machine.specs.Cases.{unitOf}
 use Rattle.machine.specs.Image.{profitFrom}
 use Rattle.machine.proofs.CasesLaws.{margin-at}
-use Rattle.machine.proofs.Literals.{v-is, y-is, z-is}
+use Rattle.model.proofs.Automaton.Literals.{v-is, y-is, z-is}
 
 -- charges by the marks of two outputs, and by the outputs
 charges : (a b d q p : ℕ) → a * (2 * on p) + (b * (2 * rise q p) + d * (2 * rise p q))

@@ -12,8 +12,8 @@ use Rattle.model.proofs.LimitsLaws.{Limits}
 use Rattle.machine.specs.declared.State.the-variants.{Off, Run}
 use Rattle.machine.specs.Moves.{output, risen, fallen, sunk, ramped, leaves, move}
 use Rattle.machine.specs.Cases.{unitOf}
-use Rattle.machine.specs.Automaton.{St, off, up, run, down, Step, stay, start, start1, climb, reach, hold, leave}
-use Rattle.machine.specs.Automaton.{leave1, sink, land}
+use Rattle.model.specs.Automaton.{St, off, up, run, down, Step, stay, start, start1, climb, reach, hold, leave}
+use Rattle.model.specs.Automaton.{leave1, sink, land}
 use Rattle.machine.specs.Image.{image, Good}
 use Rattle.machine.proofs.CasesLaws.{pu-at, pd-at}
 

@@ -7,7 +7,7 @@ use Rattle.model.specs.declared.Case.{Case}
 use Rattle.model.specs.Symbols.{high, low, UD, DD}
 use Rattle.machine.specs.declared.State.{State}
 use Rattle.machine.specs.declared.State.the-variants.{Off, Rise, Run, Fall}
-use Rattle.machine.specs.Automaton.{St, off, up, run, down}
+use Rattle.model.specs.Automaton.{St, off, up, run, down}
 use Rattle.machine.specs.Cases.{unitOf}
 use Rattle.machine.specs.Moves.{earn}
 

@@ -29,7 +29,7 @@ add-result c = search needs
 returns : tie.Need-returns
 returns c =
     let s = c .before .before .before in
-    omega (arith, numberAt-split (s .args .part .now) (s .args .at) 2 2 (omega (arith, s .pre)))
+    omega (arith, numberAt-split (s .args .part .now) (s .args .at) 2 2)
 
 pub long-spec : {M : Type 1} → statement M
 long-spec =

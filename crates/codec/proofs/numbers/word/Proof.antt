@@ -34,9 +34,9 @@ returns c =
     let at = s .args .at in
     omega (
       arith,
-      numberAt-split l at 1 1 (omega (arith, s .pre)),
-      numberAt-one l at (omega (arith, s .pre)),
-      numberAt-one l (at + 1) (omega (arith, s .pre)),
+      numberAt-split l at 1 1,
+      numberAt-one l at,
+      numberAt-one l (at + 1),
     )
 
 pub word-spec : {M : Type 1} → statement M

@@ -45,7 +45,7 @@ loop-again c =
     let x = getD part (3 * l .i + 2) 0 in (
       omega arith,
       length-set (l .orders) (l .i) x ∙ l .inv .1,
-      padded-step 0 _ (l .i) 48 x (l .inv .2) (omega arith) (sym (numberAt-one part (3 * l .i + 2) (omega arith))),
+      padded-step 0 _ (l .i) 48 x (l .inv .2) (omega arith) (sym (numberAt-one part (3 * l .i + 2))),
     )
 
 returns : tie.Need-returns Inv-loop μ-loop

@@ -1,0 +1,163 @@
+-- The refusal of a record is the first number whose published limits it does not keep: each of the tests 2 to 8 is
+-- false exactly where the limits of its number are kept. Assumes nothing.
+use mathlib.Core.Path.{_≡_, refl}
+use mathlib.Core.Logic.{_↔_}
+use mathlib.Core.Bool.{Bool, true, false}
+use Prim.Native.Nat.{ℕ, suc, _-_}
+use native.Mathlib.Numerals.{add-one}
+use native.Mathlib.Omega.{arith}
+use borrow.Author.Tests.{ltb-true, ltb-false, lt-ltb, le-ltb, le-leb, eq-eqb, ne-eqb}
+use lib.Dec.{leb, ltb}
+use Rattle.model.specs.declared.Case.{Case}
+use Rattle.model.specs.Limits.{mostStages, mostHours, mostOutput, mostTime, mostElapsed, mostVariable, mostCharge}
+use Rattle.model.specs.Symbols.{high, low, RU, RD, UD, DD, PU, PD, last, order, F, A, B, C, p0, h}
+use Rattle.model.specs.Refusals.{refusal2, refusal3, refusal4, refusal5, climbs, descends, refusal6, refusal7}
+use Rattle.model.specs.Refusals.{refusal8, firstOf, tests, refusalOf}
+use Rattle.model.specs.Published.{Trajectories, Limited, limit2, limit3, limit4, limit5, limit6, limit7, limit8}
+use Rattle.model.specs.Published.{FirstRefused}
+use Rattle.model.proofs.LimitsLaws.{Climbs, Descends, between-within, all-every, counts, outputs, rates, money}
+use Rattle.model.proofs.LimitsLaws.{trajectories, opening, orders}
+use Rattle.model.proofs.RefusalsLaws.{first-exactly, first-test, first-none}
+
+module _ (c : Case) where
+  -- ---- a record that keeps the limits of a number passes its test
+  passes2 : Limited c 2 → refusal2 c ≡ false
+  unfolding refusal2
+  passes2 (limit2 n) =
+      rw (
+        between-within 1 mostStages (c .rises) (n .rises),
+        between-within 1 mostStages (c .falls) (n .falls),
+        between-within 1 mostHours (c .hours) (n .hours),
+      )
+
+  passes3 : Limited c 3 → refusal3 c ≡ false
+  unfolding refusal3
+  passes3 (limit3 o) =
+      rw (
+        between-within 1 (high c) (low c) (o .minimum),
+        le-leb (high c) mostOutput (o .capacity),
+      )
+
+  passes4 : Limited c 4 → refusal4 c ≡ false
+  unfolding refusal4
+  passes4 (limit4 r) =
+      rw (
+        between-within 1 mostOutput (RU c) (r .rampup),
+        between-within 1 mostOutput (RD c) (r .rampdown),
+        between-within 1 mostTime (c .minup .0) (r .minup),
+        between-within 1 mostTime (c .mindown .0) (r .mindown),
+      )
+
+  passes5 : Limited c 5 → refusal5 c ≡ false
+  unfolding refusal5
+  passes5 (limit5 m) =
+      rw (
+        le-leb (F c) mostVariable (m .variable),
+        le-leb (A c) mostCharge (m .fixed),
+        le-leb (B c) mostCharge (m .startcost),
+        le-leb (C c) mostCharge (m .stopcost),
+      )
+
+  climbed : Trajectories c → climbs c ≡ true
+  unfolding climbs
+  climbed t =
+      let up = all-every (λ i. ltb (PU c i) (PU c (suc i))) (UD c - 1)
+      (λ i a b. lt-ltb (PU c i) (PU c (suc i)) (rw add-one at (t .rising i a (omega arith)))) in
+      rw (le-leb 1 (PU c 1) (t .rise-from), up, eq-eqb (PU c (UD c)) (low c) (t .rise-to))
+
+  descended : Trajectories c → descends c ≡ true
+  unfolding descends
+  descended t =
+      let down = all-every (λ i. ltb (PD c (suc i)) (PD c i)) (DD c - 1)
+      (λ i a b. lt-ltb (PD c (suc i)) (PD c i) (rw add-one at (t .falling i a (omega arith)))) in
+      rw (eq-eqb (PD c 1) (low c) (t .fall-from), down, le-leb 1 (PD c (DD c)) (t .fall-to))
+
+  passes6 : Limited c 6 → refusal6 c ≡ false
+  unfolding refusal6
+  passes6 (limit6 t) = rw (climbed t, descended t)
+
+  passes7 : Limited c 7 → refusal7 c ≡ false
+  unfolding refusal7
+  passes7 (limit7 o) = go (ltb 0 (p0 c)) refl
+    where
+      go : (t : Bool) → ltb 0 (p0 c) ≡ t → refusal7 c ≡ false
+      go true e =
+          let on = ltb-true 0 (p0 c) e in
+          rw (
+            between-within 1 mostElapsed (h c) (o .elapsed),
+            e,
+            ne-eqb (p0 c) 0 (λ z. omega arith),
+            between-within (low c) (high c) (p0 c) (o .initial on),
+            le-ltb (h c) (UD c) (o .risen on),
+          )
+      go false e =
+          rw (
+            between-within 1 mostElapsed (h c) (o .elapsed),
+            e,
+            eq-eqb (p0 c) 0 (omega (arith, ltb-false 0 (p0 c) e)),
+          )
+
+  passes8 : Limited c 8 → refusal8 c ≡ false
+  unfolding refusal8
+  passes8 (limit8 o) =
+      rw (all-every (λ k. leb (order c k) 2) (last c) (λ k a b. le-leb (order c k) 2 (o .orders k a b)))
+
+  -- ---- and the other way
+  limited2 : (refusal2 c ≡ false) ↔ Limited c 2
+  limited2 = (λ e. let (r, f, h) = counts c e in limit2 (record { rises = r; falls = f; hours = h }), passes2)
+
+  limited3 : (refusal3 c ≡ false) ↔ Limited c 3
+  limited3 = (λ e. let (m, h) = outputs c e in limit3 (record { minimum = m; capacity = h }), passes3)
+
+  limited4 : (refusal4 c ≡ false) ↔ Limited c 4
+  limited4 = (
+    λ e. let (u, d, m, n) = rates c e in
+        limit4 (record { rampup = u; rampdown = d; minup = m; mindown = n }),
+    passes4,
+  )
+
+  limited5 : (refusal5 c ≡ false) ↔ Limited c 5
+  limited5 = (
+    λ e. let (f, a, b, z) = money c e in
+        limit5 (record { variable = f; fixed = a; startcost = b; stopcost = z }),
+    passes5,
+  )
+
+  shaped : Climbs c × Descends c → Trajectories c
+  shaped (u, d) =
+      record {
+        rise-from = u .0;
+        rise-to = u .2;
+        rising = λ i a b. rw add-one (u .1 i a b);
+        fall-from = d .0;
+        fall-to = d .2;
+        falling = λ i a b. rw add-one (d .1 i a b);
+      }
+
+  limited6 : (refusal6 c ≡ false) ↔ Limited c 6
+  limited6 = (λ e. limit6 (shaped (trajectories c e)), passes6)
+
+  limited7 : (refusal7 c ≡ false) ↔ Limited c 7
+  limited7 = (
+    λ e. let (h, p, u) = opening c e in
+        limit7 (record { elapsed = h; initial = λ on. (p .1 on, p .0); risen = u }),
+    passes7,
+  )
+
+  limited8 : (refusal8 c ≡ false) ↔ Limited c 8
+  limited8 = (λ e. limit8 (record { orders = orders c e }), passes8)
+
+  -- ---- the tests in turn
+  pub refusalOf-first : FirstRefused (Limited c) 2 (refusalOf c)
+  unfolding firstOf tests refusalOf
+  refusalOf-first =
+      first-test (refusal2 c) (omega arith) limited2
+      (first-test (refusal3 c) (omega arith) limited3
+      (first-test (refusal4 c) (omega arith) limited4
+      (first-test (refusal5 c) (omega arith) limited5
+      (first-test (refusal6 c) (omega arith) limited6
+      (first-test (refusal7 c) (omega arith) limited7
+      (first-test (refusal8 c) (omega arith) limited8 first-none))))))
+
+pub limits : (c : Case) (n : ℕ) → (refusalOf c ≡ n) ↔ FirstRefused (Limited c) 2 n
+limits c = first-exactly (refusalOf-first c)
