@@ -1,8 +1,38 @@
-# To be sourced from the repository's root: sets GIQAPSUN_LIB_DIR to the folder of libgiqapsun.a, as an absolute path.
-# Where it was not set, the library is proved and built in target/staticlib.
+# To be sourced from the repository's root: sets GIQAPSUN_LIB_DIR to the folder of libgiqapsun.a, as an absolute path,
+# and has the commands that build from it. Where it was not set, the library is proved and built in target/staticlib.
+# What goes wrong is one line, and ends the script that sources this.
+
+# broken MESSAGE: prints the line and ends
+broken() {
+    echo "$1" >&2
+    exit 1
+}
+
+# quietly NAME COMMAND..: runs a command, with all that it prints in target/log/NAME
+quietly() {
+    local log=$PWD/target/log/$1
+    shift
+    mkdir -p target/log
+    "$@" >"$log" 2>&1 || broken "failed: $* (see $log)"
+}
+
+# shared FOLDER: links the library as libgiqapsun.so.1, the shared library of layout 1, with libgiqapsun.so leading to it
+shared() {
+    quietly shared gcc -shared -Wl,-soname,libgiqapsun.so.1 -Wl,--no-undefined \
+        -Wl,--whole-archive "$GIQAPSUN_LIB_DIR/libgiqapsun.a" -Wl,--no-whole-archive -o "$1/libgiqapsun.so.1"
+    ln -sf libgiqapsun.so.1 "$1/libgiqapsun.so"
+}
+
 if [ -z "${GIQAPSUN_LIB_DIR:-}" ]; then
     GIQAPSUN_LIB_DIR=$PWD/target/staticlib
-    rt staticlib giqapsun >/dev/null
+    quietly staticlib rt staticlib giqapsun
 fi
+[ -f "$GIQAPSUN_LIB_DIR/libgiqapsun.a" ] ||
+    broken "no libgiqapsun.a in $GIQAPSUN_LIB_DIR, the folder that GIQAPSUN_LIB_DIR names"
+symbols=$(nm "$GIQAPSUN_LIB_DIR/libgiqapsun.a" 2>&1 || true)
+for call in read write check best; do
+    grep -q " T giqapsun_${call}_1$" <<<"$symbols" ||
+        broken "$GIQAPSUN_LIB_DIR/libgiqapsun.a has no function giqapsun_${call}_1"
+done
 GIQAPSUN_LIB_DIR=$(cd "$GIQAPSUN_LIB_DIR" && pwd)
 export GIQAPSUN_LIB_DIR

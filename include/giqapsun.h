@@ -31,40 +31,58 @@
  *
  * Rules that a list may break: the `rule` of a verdict.
  *
- *   1, 2      lower limit of the output, with the start-up and with the shut-down trajectory
- *   3, 4      upper limit of the output, with the start-up and with the shut-down trajectory
- *   5, 6      ramp-up limit RU, ramp-down limit RD
- *   7         starts and stops against the hours on-line
- *   8, 9      on-line through a start-up, through a shut-down
- *   10 to 12  a start-up and a shut-down meet in the hour at minimum output or not at all
- *   21, 22    minimum up time, minimum down time
- *   23        hour order
+ *   1   lower limit of the output, with the start-up trajectory
+ *   2   lower limit of the output, with the shut-down trajectory
+ *   3   upper limit of the output, with the start-up trajectory
+ *   4   upper limit of the output, with the shut-down trajectory
+ *   5   ramp-up limit RU
+ *   6   ramp-down limit RD
+ *   7   starts and stops against the hours on-line
+ *   8   on-line through a start-up
+ *   9   on-line through a shut-down
+ *   10  a start-up and a shut-down meet in the hour at minimum output or not at all
+ *   11  minimum output where a start-up and a shut-down meet, by PU
+ *   12  minimum output where a start-up and a shut-down meet, by PD
+ *   21  minimum up time
+ *   22  minimum down time
+ *   23  hour order
+ *
+ * No verdict names 7, 8 or 12: 7 holds of every list, what breaks 8 breaks 10 at an earlier hour, and 12
+ * says what 11 says.
  *
  * Lent memory: every pointer is valid for its length, aligned for its type and not null, also where the
  * length is 0; lent slices do not overlap. Each call below says what it changes; nothing else is changed.
  *
- * Example: a case on standard input, its best day on standard output.
+ * Calling convention: that of C on x86-64 Linux (System V), in which a record by value is copied to the
+ * stack. GIQAPSUN_STACK_READ and the like say how many bytes of stack a call takes, that record included.
+ *
+ * Example: a case on standard input, its best day on standard output. As in the program best_day, a file
+ * of more than 4,096 bytes is refused by 1.
  *
  *     #include <stdio.h>
  *     #include "giqapsun.h"
  *
+ *     static int refused(unsigned number)
+ *     {
+ *         printf("refused %u\n", number);
+ *         return 1;
+ *     }
+ *
  *     int main(void)
  *     {
- *         static uint8_t file[GIQAPSUN_FILE_MOST + 1];   // a byte more: a longer file is refused
+ *         static uint8_t file[4096 + 1];   // a byte more, to tell a longer file
  *         static int64_t work[GIQAPSUN_WORK];
  *         uint16_t outputs[GIQAPSUN_HOURS];
  *
  *         size_t length = fread(file, 1, sizeof file, stdin);
+ *         if (length == sizeof file)
+ *             return refused(1);
  *         struct giqapsun_reading day = giqapsun_read(file, length);
- *         if (day.number != 0) {
- *             printf("refused %u\n", (unsigned)day.number);
- *             return 1;
- *         }
+ *         if (day.number != 0)
+ *             return refused(day.number);
  *         struct giqapsun_plan plan = giqapsun_best(day.c, work, GIQAPSUN_WORK, outputs, GIQAPSUN_HOURS);
- *         if (plan.number != 0) {
- *             printf("refused %u\n", (unsigned)plan.number);
- *             return 1;
- *         }
+ *         if (plan.number != 0)
+ *             return refused(plan.number);
  *         printf("profit %lld half-mills\n", (long long)plan.profit);
  *         for (size_t k = 1; k <= day.c.hours; k++)
  *             printf("hour %u: %u MW\n", (unsigned)k, (unsigned)outputs[k - 1]);
@@ -81,12 +99,34 @@
 extern "C" {
 #endif
 
+/* Version of the product. */
+#define GIQAPSUN_VERSION "1.0.0"
+
+/*
+ * Number of the layout: it changes with every change of a struct below, and each function of the library
+ * carries it in its name. A program that was compiled for one layout and a library of another do not link.
+ */
+#define GIQAPSUN_LAYOUT 1
+
+#define GIQAPSUN_JOINED(name, layout) name##_##layout
+#define GIQAPSUN_NAMED(name, layout) GIQAPSUN_JOINED(name, layout)
+#define giqapsun_read GIQAPSUN_NAMED(giqapsun_read, GIQAPSUN_LAYOUT)
+#define giqapsun_write GIQAPSUN_NAMED(giqapsun_write, GIQAPSUN_LAYOUT)
+#define giqapsun_check GIQAPSUN_NAMED(giqapsun_check, GIQAPSUN_LAYOUT)
+#define giqapsun_best GIQAPSUN_NAMED(giqapsun_best, GIQAPSUN_LAYOUT)
+
 /* Entries that a record has room for: outputs of a trajectory, hours of a day. */
 #define GIQAPSUN_STAGES 8
 #define GIQAPSUN_HOURS 48
 
 /* Signed 64-bit numbers that giqapsun_best is lent to work in. */
 #define GIQAPSUN_WORK 8192
+
+/* Bytes of stack that each call takes at the most. */
+#define GIQAPSUN_STACK_READ 2048
+#define GIQAPSUN_STACK_WRITE 2048
+#define GIQAPSUN_STACK_CHECK 4096
+#define GIQAPSUN_STACK_BEST 32768
 
 /* Bytes of the longest file: pairs and unit, two trajectories, hours. */
 #define GIQAPSUN_FILE_MOST (48 + 2 * GIQAPSUN_STAGES * 2 + 3 * GIQAPSUN_HOURS)
@@ -98,18 +138,18 @@ extern "C" {
 
 /* A case. Entries past a count are zero after reading and disregarded otherwise. */
 struct giqapsun_case {
-    uint16_t capacity; /* MW, at most 400 */
-    uint16_t minimum;  /* minimum output, MW */
-    uint16_t rampup;   /* RU, MW per hour */
-    uint16_t rampdown; /* RD, MW per hour */
-    uint16_t minup;    /* minimum up time, hours */
-    uint16_t mindown;  /* minimum down time, hours */
-    uint32_t variable; /* F, mills per MWh */
-    uint32_t fixed;    /* A, mills per on-line hour */
-    uint32_t startcost;  /* B, mills per start */
-    uint32_t stopcost; /* C, mills per stop */
-    uint16_t initial;  /* p(0), MW */
-    uint16_t elapsed;  /* h: hours on-line (p(0) above 0) or off-line (p(0) 0) before hour 1 */
+    uint16_t capacity;  /* MW, at most 400 */
+    uint16_t minimum;   /* minimum output, MW */
+    uint16_t rampup;    /* RU, MW per hour */
+    uint16_t rampdown;  /* RD, MW per hour */
+    uint16_t minup;     /* minimum up time, hours */
+    uint16_t mindown;   /* minimum down time, hours */
+    uint32_t variable;  /* F, mills per MWh */
+    uint32_t fixed;     /* A, mills per on-line hour */
+    uint32_t startcost; /* B, mills per start */
+    uint32_t stopcost;  /* C, mills per stop */
+    uint16_t initial;   /* p(0), MW */
+    uint16_t elapsed;   /* h: hours on-line (p(0) above 0) or off-line (p(0) 0) before hour 1 */
     uint16_t rise[GIQAPSUN_STAGES];  /* PU, MW */
     uint16_t fall[GIQAPSUN_STAGES];  /* PD, MW */
     uint16_t prices[GIQAPSUN_HOURS]; /* prices[k - 1] is that of hour k, mills per MWh */
@@ -132,9 +172,9 @@ struct giqapsun_written {
 };
 
 /*
- * Number 0 and rule 0: the list passes and earns `profit`. Number 0 and another rule: the list breaks
- * `rule` at `hour`, the earliest hour (0 included) and there the lowest rule; profit 0. Or a refusal, and
- * hour, rule and profit 0.
+ * Number 0 and rule 0: the list passes and earns `profit`; hour 0. Number 0 and another rule: the list
+ * breaks `rule` at `hour`, the earliest hour (0 included) and there the lowest rule; profit 0. Or a refusal,
+ * and hour, rule and profit 0. So the rule tells whether a list passes; the hour alone does not.
  */
 struct giqapsun_verdict {
     uint32_t number;

@@ -37,6 +37,7 @@
 
 int main(void)
 {
+    CONSTANT(LAYOUT);
     CONSTANT(STAGES);
     CONSTANT(HOURS);
     CONSTANT(WORK);

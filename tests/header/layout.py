@@ -3,6 +3,7 @@
 import ctypes
 
 import giqapsun
+from giqapsun import _boundary as boundary
 
 
 def sign(kind):
@@ -16,10 +17,12 @@ def sign(kind):
 
 def main():
     """Every constant, structure and field."""
-    for name in ("STAGES", "HOURS", "WORK", "FILE_MOST", "FREE", "ON", "OFF"):
+    for name in ("LAYOUT", "STAGES", "HOURS", "WORK", "FILE_MOST"):
+        print(name, getattr(boundary, name))
+    for name in ("FREE", "ON", "OFF"):
         print(name, getattr(giqapsun, name))
     for name in ("case", "reading", "written", "verdict", "plan"):
-        kind = getattr(giqapsun, "_" + name.capitalize())
+        kind = getattr(boundary, name.capitalize())
         print(f"{name}: size {ctypes.sizeof(kind)}")
         for field, number in kind._fields_:
             place = getattr(kind, field)

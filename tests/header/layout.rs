@@ -41,6 +41,7 @@ macro_rules! layout {
 }
 
 fn main() {
+    println!("LAYOUT {}", boundary::LAYOUT);
     println!("STAGES {}", boundary::STAGES);
     println!("HOURS {}", boundary::HOURS);
     println!("WORK {}", boundary::WORK);

@@ -1,6 +1,10 @@
 //! The C boundary as it stands in include/giqapsun.h: structs by value, slices as pointer and length.
 //! For callers that lend their own memory; the functions of the crate's root are safe.
 
+/// Number of the layout of these structs. The library's functions carry it in their names, so that a library of
+/// another layout does not link.
+pub const LAYOUT: u32 = 1;
+
 /// Entries that a record has room for in a trajectory.
 pub const STAGES: usize = 8;
 
@@ -141,15 +145,19 @@ pub struct Plan {
 // Every pointer is valid for its length, aligned and not null; lent slices do not overlap.
 extern "C" {
     /// Reads the `n` bytes of a file; changes no lent memory.
+    #[link_name = "giqapsun_read_1"]
     pub fn giqapsun_read(file: *const u8, n: usize) -> Reading;
 
     /// Writes a file into `n` lent bytes; changes the first `length` of them, on a refusal none.
+    #[link_name = "giqapsun_write_1"]
     pub fn giqapsun_write(c: Case, bytes: *mut u8, n: usize) -> Written;
 
     /// Checks a list of `n` outputs; changes no lent memory.
+    #[link_name = "giqapsun_check_1"]
     pub fn giqapsun_check(c: Case, list: *const u16, n: usize) -> Verdict;
 
     /// Finds the best list with `n` numbers to work in, at least [`WORK`], and `m` outputs, at least T.
     /// Fills the first T outputs on number 0; zeroes the first [`WORK`] numbers on 0 and 11.
+    #[link_name = "giqapsun_best_1"]
     pub fn giqapsun_best(c: Case, work: *mut i64, n: usize, outputs: *mut u16, m: usize) -> Plan;
 }

@@ -44,9 +44,14 @@
 
 pub mod boundary;
 mod refusal;
+mod rule;
 
 pub use boundary::{Case, FILE_MOST, FREE, HOURS, OFF, ON, STAGES, WORK};
 pub use refusal::Refusal;
+pub use rule::{rule_text, RULES};
+
+/// Version of the product.
+pub const VERSION: &str = env!("CARGO_PKG_VERSION");
 
 /// What the check says of a list of T outputs.
 #[derive(Clone, Copy, Debug, PartialEq, Eq)]
@@ -60,7 +65,7 @@ pub enum Verdict {
     Breaks {
         /// The earliest hour at which a rule is broken; hour 0 is the one before the day.
         hour: u32,
-        /// The lowest rule broken there: constraints 1 to 12, minimum times 21 and 22, hour orders 23.
+        /// The lowest rule broken there; [`rule_text`] has its words.
         rule: u32,
     },
 }

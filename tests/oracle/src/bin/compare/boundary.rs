@@ -1,4 +1,5 @@
-//! The library's C boundary: structs by value, slices as pointer and length.
+//! The library's C boundary: structs by value, slices as pointer and length. The names end in 1, the number of
+//! the record's layout.
 
 use oracle::case::Case;
 
@@ -34,15 +35,19 @@ pub struct Plan {
 
 extern "C" {
     /// Reads a case from the bytes of a file.
+    #[link_name = "giqapsun_read_1"]
     pub fn giqapsun_read(file: *const u8, count: usize) -> Reading;
 
     /// Writes a case as the bytes of a file.
+    #[link_name = "giqapsun_write_1"]
     pub fn giqapsun_write(case: Case, bytes: *mut u8, count: usize) -> Written;
 
     /// Checks a list of outputs.
+    #[link_name = "giqapsun_check_1"]
     pub fn giqapsun_check(case: Case, list: *const u16, count: usize) -> Verdict;
 
     /// Finds the best list of outputs.
+    #[link_name = "giqapsun_best_1"]
     pub fn giqapsun_best(
         case: Case,
         work: *mut i64,

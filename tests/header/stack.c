@@ -1,0 +1,116 @@
+/*
+ * The stack that each call takes on the largest case, its record included, beside what giqapsun.h says. The
+ * calls run on a stack of their own that is painted first; what is no longer paint was used. Status 1: a
+ * call took more than it may.
+ */
+#include "giqapsun.h"
+#include <pthread.h>
+#include <stdio.h>
+#include <string.h>
+
+#define STACK_BYTES (1 << 20)
+#define PAINT 0xa5
+
+/* Bytes right below the measuring function that are left unpainted, for the call that paints. */
+#define MARGIN 512
+
+static unsigned char stack[STACK_BYTES] __attribute__((aligned(64)));
+
+static struct giqapsun_case largest;
+static uint8_t file[GIQAPSUN_FILE_MOST];
+static int64_t work[GIQAPSUN_WORK];
+static uint16_t outputs[GIQAPSUN_HOURS];
+
+/* Numbers of the answers; all are 0. */
+static uint32_t numbers;
+
+static void call_write(void)
+{
+    numbers |= giqapsun_write(largest, file, sizeof file).number;
+}
+
+static void call_read(void)
+{
+    numbers |= giqapsun_read(file, sizeof file).number;
+}
+
+static void call_best(void)
+{
+    numbers |= giqapsun_best(largest, work, GIQAPSUN_WORK, outputs, GIQAPSUN_HOURS).number;
+}
+
+static void call_check(void)
+{
+    numbers |= giqapsun_check(largest, outputs, GIQAPSUN_HOURS).number;
+}
+
+/* The calls in an order in which each has what it needs. */
+static struct {
+    const char *name;
+    void (*call)(void);
+    size_t stated, used;
+} calls[] = {
+    {"write", call_write, GIQAPSUN_STACK_WRITE, 0},
+    {"read", call_read, GIQAPSUN_STACK_READ, 0},
+    {"best", call_best, GIQAPSUN_STACK_BEST, 0},
+    {"check", call_check, GIQAPSUN_STACK_CHECK, 0},
+};
+
+#define CALLS (sizeof calls / sizeof *calls)
+
+/* Bytes of the stack below this function that a call uses. */
+static size_t used(void (*call)(void))
+{
+    unsigned char *here = __builtin_frame_address(0);
+    memset(stack, PAINT, (size_t)(here - stack) - MARGIN);
+    call();
+    size_t unused = 0;
+    while (stack[unused] == PAINT)
+        unused++;
+    return (size_t)(here - stack) - unused;
+}
+
+/* A day of 48 hours that lead the unit up, down and off-line, with 400 MW and trajectories of 8 stages. */
+static void fill_largest(void)
+{
+    largest.capacity = largest.rampup = largest.rampdown = 400;
+    largest.minimum = GIQAPSUN_STAGES;
+    largest.minup = largest.mindown = largest.elapsed = 8;
+    largest.variable = 30000;
+    largest.rises = largest.falls = GIQAPSUN_STAGES;
+    largest.hours = GIQAPSUN_HOURS;
+    for (uint16_t i = 0; i < GIQAPSUN_STAGES; i++) {
+        largest.rise[i] = (uint16_t)(i + 1);
+        largest.fall[i] = (uint16_t)(GIQAPSUN_STAGES - i);
+    }
+    for (uint16_t k = 0; k < GIQAPSUN_HOURS; k++)
+        largest.prices[k] = k / 12 % 2 == 0 ? 60000 : 1000;
+}
+
+/* All calls on that day. */
+static void *measure(void *nothing)
+{
+    fill_largest();
+    for (size_t i = 0; i < CALLS; i++)
+        calls[i].used = used(calls[i].call);
+    return nothing;
+}
+
+int main(void)
+{
+    pthread_t thread;
+    pthread_attr_t attributes;
+    if (pthread_attr_init(&attributes) != 0 || pthread_attr_setstack(&attributes, stack, sizeof stack) != 0 ||
+        pthread_create(&thread, &attributes, measure, NULL) != 0 || pthread_join(thread, NULL) != 0 ||
+        numbers != 0) {
+        fprintf(stderr, "stack: no measurement\n");
+        return 1;
+    }
+    int status = 0;
+    for (size_t i = 0; i < CALLS; i++) {
+        printf("stack: %s takes %zu of %zu bytes\n", calls[i].name, calls[i].used, calls[i].stated);
+        if (calls[i].used > calls[i].stated)
+            status = 1;
+    }
+    return status;
+}
