@@ -1,17 +1,11 @@
-//! Tells the linker where the library stands, if the feature `library` asks for it.
+//! With the feature `library`, finds the library as the Rust crate of the bindings does.
 
-use std::env;
+#[path = "../../bindings/rust/build.rs"]
+mod library;
 
-/// With the feature, the folder in GIQAPSUN_LIB_DIR must hold libgiqapsun.a.
 fn main() {
-    println!("cargo:rerun-if-changed=build.rs");
-    println!("cargo:rerun-if-env-changed=GIQAPSUN_LIB_DIR");
-    if env::var_os("CARGO_FEATURE_LIBRARY").is_none() {
-        return;
+    println!("cargo::rerun-if-changed=build.rs");
+    if std::env::var_os("CARGO_FEATURE_LIBRARY").is_some() {
+        library::main();
     }
-    let folder =
-        env::var("GIQAPSUN_LIB_DIR").expect("set GIQAPSUN_LIB_DIR to the folder that holds libgiqapsun.a");
-    println!("cargo:rerun-if-changed={folder}/libgiqapsun.a");
-    println!("cargo:rustc-link-search=native={folder}");
-    println!("cargo:rustc-link-lib=static=giqapsun");
 }

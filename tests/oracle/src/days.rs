@@ -10,7 +10,7 @@ pub enum Question {
 }
 
 /// What the table answers.
-#[derive(Clone, Debug)]
+#[derive(Clone, Debug, PartialEq)]
 pub enum Answer {
     Found { list: Vec<u16>, profit: i64 },
     Breaks { hour: u32, rule: u32 },

@@ -1,6 +1,7 @@
 //! Each of the four calls, made twice in guarded memory filled with random numbers, and compared with
 //! the answer of the independent scheduler: the answer itself and every lent number.
 
+use crate::board::Board;
 use crate::boundary::{giqapsun_best, giqapsun_check, giqapsun_read, giqapsun_write};
 use crate::guard::{Lent, Placement, Region, PLACEMENTS};
 use oracle::answers::{self, Reading, Schedule, Verdict};
@@ -8,10 +9,76 @@ use oracle::case::Case;
 use oracle::random::Rng;
 use oracle::refusals::WORKING_NUMBERS;
 use std::fmt::Debug;
-use std::time::{Duration, Instant};
+use std::time::Instant;
 
-/// What a call did otherwise than it should, in words.
-pub type Difference = String;
+/// The calls by name; the last one is that of the independent scheduler, where it disagrees with itself.
+#[derive(Clone, Copy, Debug, PartialEq, Eq)]
+pub enum Name {
+    Read,
+    Write,
+    Check,
+    Best,
+    Independent,
+}
+
+impl Name {
+    /// A word for titles and names of files.
+    pub fn word(self) -> &'static str {
+        match self {
+            Name::Read => "read",
+            Name::Write => "write",
+            Name::Check => "check",
+            Name::Best => "best",
+            Name::Independent => "independent",
+        }
+    }
+}
+
+/// What a call is made with, so that it can be made again.
+#[derive(Clone, Copy)]
+pub enum Input<'a> {
+    File(&'a [u8]),
+    Case(&'a Case),
+    List(&'a Case, &'a [u16]),
+}
+
+/// A call and the memory that it is lent.
+#[derive(Clone, Copy)]
+pub struct Call<'a> {
+    pub name: Name,
+    pub input: Input<'a>,
+    /// Numbers lent to work in, and bytes or outputs lent.
+    pub work: usize,
+    pub lent: usize,
+    pub place: Placement,
+}
+
+impl<'a> Call<'a> {
+    /// A call that is lent no numbers to work in, before it is placed.
+    pub fn new(name: Name, input: Input<'a>, lent: usize) -> Call<'a> {
+        Call { name, input, work: 0, lent, place: Placement::EndsAtGuard }
+    }
+
+    /// The call in words.
+    pub fn words(&self) -> String {
+        let (lent, place) = (self.lent, self.place.words());
+        match self.name {
+            Name::Read => format!("giqapsun_read of {lent} bytes {place}"),
+            Name::Write => format!("giqapsun_write into {lent} bytes {place}"),
+            Name::Check => format!("giqapsun_check of {lent} outputs {place}"),
+            Name::Best => {
+                format!("giqapsun_best with {} numbers and {lent} outputs, each {place}", self.work)
+            }
+            Name::Independent => "none: the independent scheduler disagrees with itself".to_string(),
+        }
+    }
+}
+
+/// What a call did otherwise than it should, in lines of words.
+pub struct Difference<'a> {
+    pub call: Call<'a>,
+    pub words: String,
+}
 
 /// The memory to lend from.
 pub struct Memory {
@@ -19,19 +86,21 @@ pub struct Memory {
     outputs: Region,
     work: Region,
     noise: Rng,
-    /// Time spent in the library.
-    pub library_time: Duration,
+    board: Board,
+    /// Nanoseconds spent in the library.
+    pub library_time: u64,
 }
 
 impl Memory {
     /// Maps regions that hold the largest slices of any group.
-    pub fn new() -> Memory {
+    pub fn new(board: Board) -> Memory {
         Memory {
             bytes: Region::new(4),
             outputs: Region::new(1),
             work: Region::new(2),
             noise: Rng::for_index(0, 0),
-            library_time: Duration::ZERO,
+            board,
+            library_time: 0,
         }
     }
 
@@ -42,86 +111,95 @@ impl Memory {
     }
 
     /// Compares reading a file.
-    pub fn read(&mut self, file: &[u8]) -> Result<(), Difference> {
+    pub fn read<'a>(&mut self, file: &'a [u8]) -> Result<(), Difference<'a>> {
         let expected = answers::reading(file);
         for place in PLACEMENTS {
+            let call = Call { place, ..Call::new(Name::Read, Input::File(file), file.len()) };
             let lent = self.bytes.lend(file, place, &mut self.noise);
             // SAFETY: pointer and count are those of the lent slice.
-            let raw =
-                timed(&mut self.library_time, || unsafe { giqapsun_read(lent.pointer(), lent.count()) });
-            same("read", place, Reading { number: raw.number, case: raw.case }, expected)?;
-            as_wanted("read: the file's bytes", place, &lent, &[])?;
+            let raw = self.made(&call, || unsafe { giqapsun_read(lent.pointer(), lent.count()) });
+            same(&call, Reading { number: raw.number, case: raw.case }, expected)?;
+            as_wanted(&call, "the file's bytes", &lent, &[])?;
         }
         Ok(())
     }
 
     /// Compares writing a record into so many bytes.
-    pub fn write(&mut self, case: &Case, count: usize) -> Result<(), Difference> {
+    pub fn write<'a>(&mut self, case: &'a Case, count: usize) -> Result<(), Difference<'a>> {
         let expected = answers::writing(case, count);
         for place in PLACEMENTS {
+            let call = Call { place, ..Call::new(Name::Write, Input::Case(case), count) };
             let noise = self.noise.bytes(count);
             let lent = self.bytes.lend(&noise, place, &mut self.noise);
             // SAFETY: pointer and count are those of the lent slice.
-            let raw = timed(&mut self.library_time, || unsafe {
-                giqapsun_write(*case, lent.pointer(), lent.count())
-            });
-            let given = (raw.number, raw.length);
-            same("write (number, length)", place, given, (expected.number, expected.bytes.len()))?;
-            as_wanted("write: the lent bytes", place, &lent, &expected.bytes)?;
+            let raw = self.made(&call, || unsafe { giqapsun_write(*case, lent.pointer(), lent.count()) });
+            let given = Written { number: raw.number, length: raw.length };
+            same(&call, given, Written { number: expected.number, length: expected.bytes.len() })?;
+            as_wanted(&call, "the lent bytes", &lent, &expected.bytes)?;
         }
         Ok(())
     }
 
     /// Compares the check of a list.
-    pub fn check(&mut self, case: &Case, list: &[u16]) -> Result<Verdict, Difference> {
+    pub fn check<'a>(&mut self, case: &'a Case, list: &'a [u16]) -> Result<Verdict, Difference<'a>> {
         let expected = answers::verdict(case, list);
         for place in PLACEMENTS {
+            let call = Call { place, ..Call::new(Name::Check, Input::List(case, list), list.len()) };
             let lent = self.outputs.lend(list, place, &mut self.noise);
             // SAFETY: pointer and count are those of the lent slice.
-            let raw = timed(&mut self.library_time, || unsafe {
-                giqapsun_check(*case, lent.pointer(), lent.count())
-            });
+            let raw = self.made(&call, || unsafe { giqapsun_check(*case, lent.pointer(), lent.count()) });
             let (number, hour, rule, profit) = (raw.number, raw.hour, raw.rule, raw.profit);
-            same("check", place, Verdict { number, hour, rule, profit }, expected)?;
-            as_wanted("check: the list", place, &lent, &[])?;
+            same(&call, Verdict { number, hour, rule, profit }, expected)?;
+            as_wanted(&call, "the list", &lent, &[])?;
         }
         Ok(expected)
     }
 
     /// Compares the search in so many working numbers and outputs with the expected schedule.
-    pub fn best(
+    pub fn best<'a>(
         &mut self,
-        case: &Case,
+        case: &'a Case,
         working_numbers: usize,
         outputs: usize,
         expected: &Schedule,
-    ) -> Result<(), Difference> {
+    ) -> Result<(), Difference<'a>> {
         let searched = expected.number == 0 || expected.number == 11;
         let zeroed = vec![0; if searched { WORKING_NUMBERS } else { 0 }];
         for place in PLACEMENTS {
+            let call =
+                Call { work: working_numbers, place, ..Call::new(Name::Best, Input::Case(case), outputs) };
             let noise: Vec<i64> = (0..working_numbers).map(|_| self.noise.bits() as i64).collect();
             let work = self.work.lend(&noise, place, &mut self.noise);
             let noise: Vec<u16> = (0..outputs).map(|_| self.noise.bits() as u16).collect();
             let list = self.outputs.lend(&noise, place, &mut self.noise);
             // SAFETY: pointers and counts are those of the lent slices.
-            let raw = timed(&mut self.library_time, || unsafe {
+            let raw = self.made(&call, || unsafe {
                 giqapsun_best(*case, work.pointer(), work.count(), list.pointer(), list.count())
             });
             let given = answer_with_outputs(raw.number, raw.profit, list.now(), case.t);
-            same("best", place, given, expected.clone())?;
-            as_wanted("best: the outputs", place, &list, &expected.list)?;
-            as_wanted("best: the working numbers", place, &work, &zeroed)?;
+            same(&call, given, expected.clone())?;
+            as_wanted(&call, "the outputs", &list, &expected.list)?;
+            as_wanted(&call, "the working numbers", &work, &zeroed)?;
         }
         Ok(())
     }
+
+    /// Makes a call, says so on the board, and adds the time it took.
+    fn made<N>(&mut self, call: &Call, make: impl FnOnce() -> N) -> N {
+        self.board.enter(call);
+        let begun = Instant::now();
+        let answer = make();
+        self.library_time += begun.elapsed().as_nanos() as u64;
+        self.board.leave();
+        answer
+    }
 }
 
-/// Makes a call and adds the time it took.
-fn timed<N>(time: &mut Duration, call: impl FnOnce() -> N) -> N {
-    let begun = Instant::now();
-    let answer = call();
-    *time += begun.elapsed();
-    answer
+/// What writing answers, without the bytes.
+#[derive(Debug, PartialEq)]
+struct Written {
+    number: u32,
+    length: usize,
 }
 
 /// A given answer, with the first T outputs where the call says that it found a list.
@@ -131,27 +209,28 @@ fn answer_with_outputs(number: u32, profit: i64, outputs: &[u16], t: usize) -> S
 }
 
 /// The two answers must be the same.
-fn same<N: PartialEq + Debug>(call: &str, place: Placement, given: N, expected: N) -> Result<(), Difference> {
+fn same<'a, N: PartialEq + Debug>(call: &Call<'a>, given: N, expected: N) -> Result<(), Difference<'a>> {
     if given == expected {
         return Ok(());
     }
-    Err(format!("{call} ({place:?})\n  given    {given:?}\n  expected {expected:?}"))
+    Err(Difference { call: *call, words: format!("  given     {given:?}\n  expected  {expected:?}") })
 }
 
 /// The lent memory must hold the wanted numbers first, and past them what was lent.
-fn as_wanted<N: Copy + PartialEq + Debug>(
+fn as_wanted<'a, N: Copy + PartialEq + Debug>(
+    call: &Call<'a>,
     what: &str,
-    place: Placement,
     lent: &Lent<N>,
     wanted: &[N],
-) -> Result<(), Difference> {
+) -> Result<(), Difference<'a>> {
     if lent.holds(wanted) {
         return Ok(());
     }
     let (stated, count) = (wanted.len(), lent.count());
     let found = match lent.first_wrong(wanted) {
-        Some(i) => format!("number {i} of {count} is {:?}", lent.now()[i]),
-        None => "the memory beside the lent slice has changed".to_string(),
+        Some(i) => format!("{what}: number {i} of {count} is {:?}", lent.now()[i]),
+        None => format!("memory beside {what} has changed"),
     };
-    Err(format!("{what} ({place:?}): {found}; the first {stated} are stated, the others are as lent"))
+    let expected = format!("the first {stated} as stated, all others as lent");
+    Err(Difference { call: *call, words: format!("  given     {found}\n  expected  {expected}") })
 }

@@ -1,6 +1,6 @@
 //! The groups of comparisons. Each index of a group makes its own case from the seed.
 
-use crate::calls::{Difference, Memory};
+use crate::run::Run;
 use oracle::answers::{self, Schedule, Verdict};
 use oracle::best::{by_commitment, every_list, Plan};
 use oracle::case::{Case, MOST_HOURS};
@@ -8,33 +8,37 @@ use oracle::damage::damaged_file;
 use oracle::days::{self, Answer, Question};
 use oracle::dp::best_list;
 use oracle::file;
-use oracle::lists::{any_list, disturb, walk, wild_list};
-use oracle::random::Rng;
+use oracle::lists::{any_list, wild_list};
 use oracle::refusals::WORKING_NUMBERS;
-use oracle::rules::RULES;
 use oracle::units::{full_day, long_day, longer_day, small_unit};
 use oracle::wild::{fill_past_counts, wild_record};
 
-/// A group: its name, how many indices it has, and what one index does.
+/// A group: its name, how many indices it has, what one index does, and that in words.
 pub struct Group {
     pub name: &'static str,
     pub count: u64,
     pub run: fn(&mut Run, u64),
+    pub about: &'static str,
+}
+
+/// A group of the list below.
+const fn group(name: &'static str, count: u64, run: fn(&mut Run, u64), about: &'static str) -> Group {
+    Group { name, count, run, about }
 }
 
 /// All groups in the order in which they run.
 pub const GROUPS: [Group; 11] = [
-    Group { name: "known-days", count: 13, run: known_day },
-    Group { name: "source-day", count: 2, run: source_day },
-    Group { name: "small-units", count: 20_000, run: small_units },
-    Group { name: "longer-days", count: 2_500, run: longer_days },
-    Group { name: "long-days", count: 2_000, run: long_days },
-    Group { name: "full-days", count: 300, run: full_days },
-    Group { name: "damaged-files", count: 20_000, run: damaged_files },
-    Group { name: "lists", count: 20_000, run: lists },
-    Group { name: "lengths", count: 2_000, run: lengths },
-    Group { name: "wild-records", count: 20_000, run: wild_records },
-    Group { name: "entries-past-counts", count: 2_000, run: entries_past_counts },
+    group("known-days", 13, known_day, "the known days, all calls, every list checked"),
+    group("source-day", 2, source_day, "the source's day, once and twice over"),
+    group("small-units", 20_000, small_units, "small units, every list tried"),
+    group("longer-days", 2_500, longer_days, "longer days, every commitment tried"),
+    group("long-days", 2_000, long_days, "up to 48 hours, by the dynamic programme"),
+    group("full-days", 300, full_days, "up to 400 MW, by the dynamic programme"),
+    group("damaged-files", 20_000, damaged_files, "files with a fault, and those still accepted"),
+    group("lists", 20_000, lists, "ten lists of a case, checked"),
+    group("lengths", 2_000, lengths, "memory that is short, just enough, longer, none"),
+    group("wild-records", 20_000, wild_records, "records at and past their limits"),
+    group("entries-past-counts", 2_000, entries_past_counts, "random numbers past the counts of a record"),
 ];
 
 /// Most lists of a unit that are all put through the check.
@@ -43,148 +47,12 @@ const MOST_CHECKED: u64 = 300;
 /// Lists that each index of the group `lists` puts through the check.
 const LISTS_OF_A_CASE: usize = 10;
 
-/// What a difference was found with, so that it can be run again.
-pub enum Input<'a> {
-    File(&'a [u8]),
-    Case(&'a Case),
-    List(&'a Case, &'a [u16]),
-    Record(&'a Case),
-}
-
-/// Everything a running group needs and counts.
-pub struct Run {
-    pub memory: Memory,
-    pub group: &'static str,
-    pub seed: u64,
-    pub index: u64,
-    pub passed: u64,
-    pub failed: u64,
-    /// Verdicts by rule broken first, those broken at hour 0, and refusals by number.
-    pub breaches: [u64; 24],
-    pub at_hour_0: u64,
-    pub refusals: [u64; 12],
-}
-
-impl Run {
-    /// Counts a comparison; shows the first ten differences of the group.
-    fn note(&mut self, result: Result<(), Difference>, input: Input) {
-        match result {
-            Ok(()) => self.passed += 1,
-            Err(difference) => {
-                self.failed += 1;
-                if self.failed <= 10 {
-                    self.show(&difference, input);
-                }
-            }
-        }
-    }
-
-    /// Prints a difference with the case and how to run it again.
-    fn show(&self, difference: &str, input: Input) {
-        let (group, index) = (self.group, self.index);
-        println!("DIFFERENCE {group} seed {:#x} index {index}: {difference}", self.seed);
-        match input {
-            Input::File(bytes) => show_file(bytes),
-            Input::Case(case) => show_case(case),
-            Input::List(case, list) => {
-                println!("  list {list:?}");
-                show_case(case);
-                println!("  with --list {}", list.iter().map(u16::to_string).collect::<Vec<_>>().join(","));
-            }
-            Input::Record(case) => println!("  record {case:?}"),
-        }
-        println!("  run again: compare --seed {:#x} --group {group} --index {index}", self.seed);
-    }
-
-    /// Random numbers of this index.
-    fn rng(&self) -> Rng {
-        Rng::for_index(self.seed, self.index)
-    }
-
-    /// Compares the check of one list, and counts the verdict.
-    fn check(&mut self, case: &Case, list: &[u16]) {
-        let result = self.memory.check(case, list);
-        if let Ok(verdict) = &result {
-            self.count(verdict);
-        }
-        self.note(result.map(|_| ()), Input::List(case, list));
-    }
-
-    /// The independent verdict on a known list must be the one of the table.
-    fn known_verdict(&mut self, case: &Case, list: &[u16], answer: &Answer) {
-        let verdict = answers::verdict(case, list);
-        let as_known = matches!(*answer, Answer::Breaks { hour, rule }
-            if verdict == Verdict { number: 0, hour, rule, profit: 0 });
-        let result = if as_known { Ok(()) } else { Err(format!("{verdict:?}, expected {answer:?}")) };
-        self.note(result, Input::List(case, list));
-    }
-
-    /// Counts a verdict by its rule or number.
-    fn count(&mut self, verdict: &Verdict) {
-        match verdict.number {
-            0 => {
-                self.breaches[verdict.rule as usize] += 1;
-                self.at_hour_0 += u64::from(verdict.rule > 0 && verdict.hour == 0);
-            }
-            number => self.refusals[number as usize] += 1,
-        }
-    }
-
-    /// Compares the search in just enough memory.
-    fn best(&mut self, case: &Case, expected: &Schedule) {
-        self.refusals[expected.number as usize] += 1;
-        let result = self.memory.best(case, WORKING_NUMBERS, case.t, expected);
-        self.note(result, Input::Case(case));
-    }
-
-    /// Compares writing in just enough memory, and reading the written file.
-    fn file(&mut self, case: &Case) {
-        let written = answers::writing(case, usize::MAX);
-        let result = self.memory.write(case, written.bytes.len());
-        self.note(result, Input::Case(case));
-        let result = self.memory.read(&written.bytes);
-        self.note(result, Input::File(&written.bytes));
-    }
-
-    /// Compares all four calls on a case within the limits whose best list is known, with a few lists.
-    fn whole_case(&mut self, case: &Case, found: Option<Plan>, rng: &mut Rng) {
-        self.file(case);
-        let expected = answers::schedule(case, WORKING_NUMBERS, case.t, |_| found);
-        self.best(case, &expected);
-        let mut list = if expected.number == 0 { expected.list } else { walk(rng, case) };
-        self.check(case, &list);
-        disturb(rng, case, &mut list);
-        self.check(case, &list);
-        self.check(case, &any_list(rng, case));
-    }
-
-    /// The searches of the independent scheduler must agree among themselves.
-    fn searches_agree(&mut self, case: &Case, tried: &Option<Plan>) {
-        let planned = best_list(case);
-        let result = if planned == *tried {
-            Ok(())
-        } else {
-            Err(format!("the independent searches differ\n  dp    {planned:?}\n  tried {tried:?}"))
-        };
-        self.note(result, Input::Case(case));
-    }
-}
-
-/// Prints a file as hex digits; a long one is left to the seed.
-fn show_file(bytes: &[u8]) {
-    if bytes.len() > 1_000 {
-        println!("  a file of {} bytes", bytes.len());
-    } else {
-        let digits: String = bytes.iter().map(|byte| format!("{byte:02x}")).collect();
-        println!("  compare --case {digits}");
-    }
-}
-
-/// Prints a case as hex digits of its file, or its fields if no file can hold it.
-fn show_case(case: &Case) {
-    match file::write(case) {
-        Ok(bytes) => show_file(&bytes),
-        Err(_) => println!("  record {case:?}"),
+/// A verdict in the words of the known days.
+fn known_answer(verdict: &Verdict) -> Answer {
+    match (verdict.number, verdict.rule) {
+        (0, 0) => unreachable!("no known list passes"),
+        (0, rule) => Answer::Breaks { hour: verdict.hour, rule },
+        (number, _) => Answer::Refused(number),
     }
 }
 
@@ -200,7 +68,7 @@ fn known_day(run: &mut Run, index: u64) {
             run.best(case, &Schedule { number: *number, profit: 0, list: Vec::new() });
         }
         (Question::Check(list), answer) => {
-            run.known_verdict(case, list, answer);
+            run.independent(case, &known_answer(&answers::verdict(case, list)), answer);
             run.check(case, list);
         }
         (Question::BestList, Answer::Breaks { .. }) => unreachable!("a search breaks no rule"),
@@ -217,8 +85,7 @@ fn source_day(run: &mut Run, index: u64) {
     let plan = best_list(&case);
     if index == 0 {
         let profit = plan.as_ref().map(|plan| plan.profit);
-        let reached = if profit == Some(days::SOURCE_PROFIT) { Ok(()) } else { Err(format!("{plan:?}")) };
-        run.note(reached, Input::Case(&case));
+        run.independent(&case, &profit, &Some(days::SOURCE_PROFIT));
         run.check(&case, &days::SOURCE_LIST);
     }
     let mut rng = run.rng();
@@ -231,7 +98,7 @@ fn small_units(run: &mut Run, _index: u64) {
     let mut rng = run.rng();
     let case = small_unit(&mut rng);
     let tried = every_list(&case);
-    run.searches_agree(&case, &tried);
+    run.independent(&case, &best_list(&case), &tried);
     run.whole_case(&case, tried, &mut rng);
     every_list_checked(run, &case, MOST_CHECKED);
 }
@@ -251,7 +118,7 @@ fn longer_days(run: &mut Run, _index: u64) {
     let mut rng = run.rng();
     let case = longer_day(&mut rng);
     let tried = by_commitment(&case);
-    run.searches_agree(&case, &tried);
+    run.independent(&case, &best_list(&case), &tried);
     run.whole_case(&case, tried, &mut rng);
 }
 
@@ -272,12 +139,12 @@ fn full_days(run: &mut Run, _index: u64) {
 /// A damaged file; one that is still accepted is written again too.
 fn damaged_files(run: &mut Run, _index: u64) {
     let file = damaged_file(&mut run.rng());
-    run.refusals[answers::reading(&file).number as usize] += 1;
+    run.tally.refusals[answers::reading(&file).number as usize] += 1;
     let result = run.memory.read(&file);
-    run.note(result, Input::File(&file));
+    run.note(result);
     if let Ok(case) = file::read(&file) {
         let result = run.memory.write(&case, file.len());
-        run.note(result, Input::File(&file));
+        run.note(result);
     }
 }
 
@@ -309,14 +176,14 @@ fn all_lengths(run: &mut Run, case: &Case, found: Option<Plan>) {
     let more = rng.place(2, 100);
     for count in [0, needed - 1, needed, needed + 1, needed + more, 70_000] {
         let result = run.memory.write(case, count);
-        run.note(result, Input::Case(case));
+        run.note(result);
     }
     for working_numbers in [0, 8_191, 8_192, 8_193, 8_192 + more] {
         for outputs in [0, t - 1, t, t + 1, t + more] {
             let search = |_: &Case| found.clone();
             let expected = answers::schedule(case, working_numbers, outputs, search);
             let result = run.memory.best(case, working_numbers, outputs, &expected);
-            run.note(result, Input::Case(case));
+            run.note(result);
         }
     }
     for count in [0, t - 1, t, t + 1, t + more, 1_000] {
@@ -333,15 +200,16 @@ fn wild_records(run: &mut Run, _index: u64) {
     let t = if case.t <= 2 * MOST_HOURS { case.t } else { rng.place(0, 2 * MOST_HOURS) };
     let bytes = rng.pick(&[0, 58, 59, 64, 65, 207, 223, 224, 224, 224]);
     let result = run.memory.write(&case, bytes);
-    run.note(result, Input::Record(&case));
-    let result = run.memory.check(&case, &wild_list(&mut rng, &case)).map(|_| ());
-    run.note(result, Input::Record(&case));
+    run.note(result);
+    let list = wild_list(&mut rng, &case);
+    let result = run.memory.check(&case, &list).map(|_| ());
+    run.note(result);
     let working_numbers = rng.pick(&[0, 8_191, 8_192, 8_192, 8_192, 8_192, 8_193]);
     let outputs = rng.pick(&[t, t, t, t, t + 1, t.saturating_sub(1), 0]);
     let expected = answers::schedule(&case, working_numbers, outputs, best_list);
-    run.refusals[expected.number as usize] += 1;
+    run.tally.refusals[expected.number as usize] += 1;
     let result = run.memory.best(&case, working_numbers, outputs, &expected);
-    run.note(result, Input::Record(&case));
+    run.note(result);
 }
 
 /// A case with random numbers in the entries past its counts, which must change nothing.
@@ -352,25 +220,25 @@ fn entries_past_counts(run: &mut Run, _index: u64) {
     fill_past_counts(&mut rng, &mut case);
     let expected = answers::schedule(&clean, WORKING_NUMBERS, clean.t, best_list);
     let result = run.memory.best(&case, WORKING_NUMBERS, case.t, &expected);
-    run.note(result, Input::Record(&case));
+    run.note(result);
     let list = any_list(&mut rng, &clean);
     let result = run.memory.check(&case, &list).map(|_| ());
-    run.note(result, Input::Record(&case));
+    run.note(result);
     let result = run.memory.write(&case, answers::writing(&clean, usize::MAX).bytes.len());
-    run.note(result, Input::Record(&case));
+    run.note(result);
 }
 
 /// Runs one file again: reading, and if it is accepted, all calls, lengths and many lists.
-pub fn one_file(run: &mut Run, bytes: &[u8], list: Option<Vec<u16>>) {
+pub fn one_file(run: &mut Run, bytes: &[u8], list: Option<&[u16]>) {
     let result = run.memory.read(bytes);
-    run.note(result, Input::File(bytes));
+    run.note(result);
     let Ok(case) = file::read(bytes) else {
         return;
     };
     let plan = best_list(&case);
     let lists = (u64::from(case.capacity) + 2).checked_pow(case.t as u32);
     if lists.is_some_and(|lists| lists <= 2_000_000) {
-        run.searches_agree(&case, &every_list(&case));
+        run.independent(&case, &plan, &every_list(&case));
     }
     println!("expected {plan:?}");
     let mut rng = run.rng();
@@ -381,21 +249,7 @@ pub fn one_file(run: &mut Run, bytes: &[u8], list: Option<Vec<u16>>) {
         run.check(&case, &list);
     }
     if let Some(list) = list {
-        println!("expected {:?}", answers::verdict(&case, &list));
-        run.check(&case, &list);
+        println!("expected {:?}", answers::verdict(&case, list));
+        run.check(&case, list);
     }
-}
-
-/// What the group met: refusals by number and first breaches by rule.
-pub fn remark(run: &Run) -> String {
-    let mut text = String::new();
-    if run.refusals.iter().any(|&count| count > 0) {
-        text += &format!("\n  refusals 0 to 11: {:?}", run.refusals);
-    }
-    if run.breaches.iter().any(|&count| count > 0) {
-        let by_rule = RULES.iter().map(|&rule| run.breaches[rule as usize]).collect::<Vec<_>>();
-        text += &format!("\n  lists passed: {}, broken by rule {RULES:?}: {by_rule:?}", run.breaches[0]);
-        text += &format!(", at hour 0: {}", run.at_hour_0);
-    }
-    text
 }

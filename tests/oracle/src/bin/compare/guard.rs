@@ -14,6 +14,7 @@ const MARGIN_BYTES: usize = 256;
 // Values of Linux.
 const PROT_NONE: i32 = 0;
 const PROT_READ_AND_WRITE: i32 = 3;
+const MAP_SHARED_AND_ANONYMOUS: i32 = 0x21;
 const MAP_PRIVATE_AND_ANONYMOUS: i32 = 0x22;
 const MAP_FAILED: usize = usize::MAX;
 
@@ -38,6 +39,25 @@ pub enum Placement {
 
 /// Both placements, in the order in which they are run.
 pub const PLACEMENTS: [Placement; 2] = [Placement::EndsAtGuard, Placement::StartsAtGuard];
+
+impl Placement {
+    /// Where slices placed so touch a guard.
+    pub fn words(self) -> &'static str {
+        match self {
+            Placement::EndsAtGuard => "ending at a guard page",
+            Placement::StartsAtGuard => "starting after a guard page",
+        }
+    }
+}
+
+/// Fresh zeroed bytes that this process shares with those that it makes.
+pub fn shared_bytes(bytes: usize) -> *mut u8 {
+    // SAFETY: a fresh mapping.
+    let base =
+        unsafe { mmap(std::ptr::null_mut(), bytes, PROT_READ_AND_WRITE, MAP_SHARED_AND_ANONYMOUS, -1, 0) };
+    assert!(base as usize != MAP_FAILED, "no memory can be mapped");
+    base.cast()
+}
 
 /// Usable bytes between two guards.
 pub struct Region {

@@ -1,138 +1,153 @@
 //! Compares the library with the independent scheduler: every answer and every lent number.
 //!
-//! compare [--seed N] [--group NAME [--index N]]
-//! compare --case HEX [--list OUTPUT,OUTPUT,...]
+//! compare [--seed N] [--groups NAME,NAME.. [--index N]] [--limit SECONDS]
+//! compare --case FILE [--list OUTPUT,OUTPUT..] [--limit SECONDS]
+//! compare --groups
 
+mod board;
 mod boundary;
 mod calls;
-mod fault;
 mod groups;
 mod guard;
+mod report;
+mod run;
+mod watch;
+mod wishes;
 
-use calls::Memory;
-use groups::{one_file, remark, Group, Run, GROUPS};
+use board::{Board, Tally};
+use groups::{one_file, GROUPS};
+use report::{show, show_outside, Source};
+use run::{remark, Run, MOST_SHOWN};
+use std::ops::Range;
 use std::process::ExitCode;
-use std::time::Instant;
+use std::time::{Duration, Instant};
+use watch::{watched, End};
+use wishes::{listed, wishes, Wishes, USAGE};
 
-/// Seed of the first group; each next group has the next number.
-const SEED: u64 = 0x9109_a500;
+/// Most times that a group goes on after the library ended its process or gave no answer.
+const MOST_BROKEN: u64 = 3;
 
-/// What the command line asks for.
-#[derive(Default)]
-struct Wishes {
-    seed: Option<u64>,
-    group: Option<String>,
-    index: Option<u64>,
-    case: Option<Vec<u8>>,
-    list: Option<Vec<u16>>,
+/// Comparisons that run one after the other, with what each index is called in a report.
+struct Series<'a> {
+    name: &'a str,
+    seed: u64,
+    indices: Range<u64>,
+    limit: Duration,
+    compare: &'a dyn Fn(&mut Run, u64),
+    source: &'a dyn Fn(u64) -> Source,
 }
 
-/// Reads the command line; none if it is not as above.
-fn wishes(mut words: impl Iterator<Item = String>) -> Option<Wishes> {
-    let mut wishes = Wishes::default();
-    while let Some(word) = words.next() {
-        let value = words.next()?;
-        match word.as_str() {
-            "--seed" => wishes.seed = Some(number(&value)?),
-            "--group" => wishes.group = Some(value),
-            "--index" => wishes.index = Some(number(&value)?),
-            "--case" => wishes.case = Some(bytes(&value)?),
-            "--list" => wishes.list = Some(outputs(&value)?),
-            _ => return None,
+impl Series<'_> {
+    /// Runs the indices, and goes on with the next one if one ends the process; gives the counts, and where the
+    /// series was stopped, if it was.
+    fn run(&self) -> (Tally, Option<u64>) {
+        let board = Board::new();
+        let (mut tally, mut next, mut broken) = (Tally::default(), self.indices.start, 0);
+        while next < self.indices.end {
+            board.begin(&tally);
+            let end = watched(&board, self.limit, || self.run_from(next, Run::new(board, self.seed, tally)));
+            tally = board.tally();
+            let End::Broken(how) = end else {
+                return (tally, None);
+            };
+            self.tell(&board, &how, &mut tally);
+            (next, broken) = (board.index() + 1, broken + 1);
+            if broken == MOST_BROKEN && next < self.indices.end {
+                return (tally, Some(next));
+            }
+        }
+        (tally, None)
+    }
+
+    /// Runs the indices from one on.
+    fn run_from(&self, next: u64, mut run: Run) {
+        for index in next..self.indices.end {
+            run.start(index, (self.source)(index));
+            (self.compare)(&mut run, index);
         }
     }
-    Some(wishes)
-}
 
-/// A number in decimal digits, or in hex digits after 0x.
-fn number(text: &str) -> Option<u64> {
-    match text.strip_prefix("0x") {
-        Some(digits) => u64::from_str_radix(digits, 16).ok(),
-        None => text.parse().ok(),
+    /// Prints and counts how the other process was ended.
+    fn tell(&self, board: &Board, how: &str, tally: &mut Tally) {
+        tally.failed += 1;
+        if tally.shown >= MOST_SHOWN {
+            return;
+        }
+        tally.shown += 1;
+        let (source, words) =
+            ((self.source)(board.index()), format!("  given     {how}\n  expected  an answer"));
+        match board.call() {
+            Some(call) => show(&source, &call, &words),
+            None => show_outside(&source, how),
+        }
     }
-}
 
-/// Bytes in pairs of hex digits.
-fn bytes(text: &str) -> Option<Vec<u8>> {
-    let digits: Option<Vec<u8>> =
-        text.chars().map(|digit| digit.to_digit(16).map(|value| value as u8)).collect();
-    let digits = digits?;
-    (digits.len() % 2 == 0).then(|| digits.chunks(2).map(|two| 16 * two[0] + two[1]).collect())
-}
-
-/// Outputs with commas between.
-fn outputs(text: &str) -> Option<Vec<u16>> {
-    text.split(',').filter(|word| !word.is_empty()).map(|word| word.trim().parse().ok()).collect()
-}
-
-/// A run of a group before its first index.
-fn start(group: &'static str, seed: u64) -> Run {
-    Run {
-        memory: Memory::new(),
-        group,
-        seed,
-        index: 0,
-        passed: 0,
-        failed: 0,
-        breaches: [0; 24],
-        at_hour_0: 0,
-        refusals: [0; 12],
+    /// Runs the series and prints its line; gives what passed and failed.
+    fn run_and_sum_up(&self) -> (u64, u64) {
+        let begun = Instant::now();
+        let (tally, stopped) = self.run();
+        let (all, library) = (begun.elapsed().as_secs_f64(), tally.library_time as f64 / 1e9);
+        let (name, seed, passed, failed) = (self.name, self.seed, tally.passed, tally.failed);
+        let shown = if failed > 0 { format!(" ({} shown)", tally.shown) } else { String::new() };
+        let stop = stopped.map_or(String::new(), |index| format!("stopped before index {index}, "));
+        print!("{name}: seed {seed:#x}, {passed} passed, {failed} failed{shown}, {stop}");
+        println!("{all:.1} s of which the library {library:.1} s{}", remark(&tally));
+        (passed, failed)
     }
-}
-
-/// Runs a group, or one index of it, and prints its line; gives what passed and failed.
-fn run_group(place: usize, group: &Group, seed: u64, only: Option<u64>) -> (u64, u64) {
-    let begun = Instant::now();
-    let mut run = start(group.name, seed);
-    for index in (0..group.count).filter(|&index| only.is_none_or(|only| only == index)) {
-        run.index = index;
-        run.memory.start(seed, index);
-        fault::running(place, seed, index);
-        (group.run)(&mut run, index);
-    }
-    let (all, library) = (begun.elapsed().as_secs_f64(), run.memory.library_time.as_secs_f64());
-    let (name, passed, failed) = (group.name, run.passed, run.failed);
-    print!("{name}: seed {seed:#x}, {passed} passed, {failed} failed, ");
-    println!("{all:.1} s of which the library {library:.1} s{}", remark(&run));
-    (passed, failed)
 }
 
 /// Runs one file again.
-fn run_case(wishes: Wishes, bytes: &[u8]) -> (u64, u64) {
-    let mut run = start("case", wishes.seed.unwrap_or(SEED));
-    fault::running(usize::MAX, run.seed, 0);
-    one_file(&mut run, bytes, wishes.list);
-    (run.passed, run.failed)
+fn run_case(wishes: &Wishes, path: &std::path::Path, bytes: &[u8]) -> (u64, u64) {
+    let source = |_| Source::of_file(path, bytes, wishes.list.as_deref());
+    Series {
+        name: "case",
+        seed: wishes.seed,
+        indices: 0..1,
+        limit: wishes.limit,
+        compare: &|run, _| one_file(run, bytes, wishes.list.as_deref()),
+        source: &source,
+    }
+    .run_and_sum_up()
 }
 
-/// Runs all groups, or the one that is asked for. A seed that is asked for belongs to that group, or
-/// to the first of all groups.
+/// Runs the groups that are asked for.
 fn run_groups(wishes: &Wishes) -> (u64, u64) {
     let mut total = (0, 0);
-    for (place, group) in GROUPS.iter().enumerate() {
-        let asked = wishes.group.as_ref().is_none_or(|name| name == group.name);
-        if asked {
-            let seed = match (wishes.seed, &wishes.group) {
-                (Some(seed), Some(_)) => seed,
-                (seed, _) => seed.unwrap_or(SEED).wrapping_add(place as u64),
-            };
-            let (passed, failed) = run_group(place, group, seed, wishes.index);
-            total = (total.0 + passed, total.1 + failed);
-        }
+    for &place in &wishes.groups {
+        let group = &GROUPS[place];
+        let series = Series {
+            name: group.name,
+            seed: wishes.seed.wrapping_add(place as u64),
+            indices: wishes.index.map_or(0..group.count, |index| index..index + 1),
+            limit: wishes.limit,
+            compare: &group.run,
+            source: &|index| Source::of_index(group.name, wishes.seed, index),
+        };
+        let (passed, failed) = series.run_and_sum_up();
+        total = (total.0 + passed, total.1 + failed);
     }
     total
 }
 
 /// The exit status is 1 if anything differs, 2 if the command line is not understood.
 fn main() -> ExitCode {
-    let Some(mut wishes) = wishes(std::env::args().skip(1)) else {
-        println!("usage: compare [--seed N] [--group NAME [--index N]]");
-        println!("       compare --case HEX [--list OUTPUT,OUTPUT,...]");
-        return ExitCode::from(2);
+    let wishes = match wishes(std::env::args().skip(1)) {
+        Ok(wishes) => wishes,
+        Err(fault) => {
+            eprintln!("compare: {fault}; `compare --help` says how to call it");
+            return ExitCode::from(2);
+        }
     };
-    fault::watch(GROUPS.iter().map(|group| group.name).collect());
-    let (passed, failed) = match wishes.case.take() {
-        Some(bytes) => run_case(wishes, &bytes),
+    if wishes.help {
+        println!("{USAGE}");
+        return ExitCode::SUCCESS;
+    }
+    if wishes.groups.is_empty() {
+        GROUPS.iter().for_each(|group| println!("{}", listed(group)));
+        return ExitCode::SUCCESS;
+    }
+    let (passed, failed) = match &wishes.case {
+        Some((path, bytes)) => run_case(&wishes, path, bytes),
         None => run_groups(&wishes),
     };
     println!("{passed} passed, {failed} failed");

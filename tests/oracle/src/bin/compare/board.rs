@@ -1,0 +1,160 @@
+//! What the process that makes the calls tells the one that watches it, in memory that both see: how far it is, what
+//! it has counted, and the call that it is making.
+
+use crate::calls::{Call, Input, Name};
+use crate::guard::{shared_bytes, Placement};
+use oracle::case::Case;
+use std::sync::atomic::{AtomicU64, Ordering};
+
+/// Most bytes of a file and most outputs of a list that are kept; longer ones are kept in part.
+const MOST_BYTES: usize = 262_144;
+const MOST_OUTPUTS: usize = 32_768;
+
+/// Counts of a group.
+#[derive(Clone, Copy, Default)]
+pub struct Tally {
+    pub passed: u64,
+    pub failed: u64,
+    /// Differences that were printed.
+    pub shown: u64,
+    /// Verdicts by rule broken first, those broken at hour 0, and refusals by number.
+    pub breaches: [u64; 24],
+    pub at_hour_0: u64,
+    pub refusals: [u64; 12],
+    /// Nanoseconds spent in the library.
+    pub library_time: u64,
+}
+
+/// The call that is being made, without references.
+#[derive(Clone, Copy)]
+struct Kept {
+    name: Name,
+    place: Placement,
+    work: usize,
+    lent: usize,
+    case: Option<Case>,
+    bytes: usize,
+    outputs: Option<usize>,
+}
+
+/// The memory itself.
+struct Shared {
+    /// Counted up before a call and after it, so that it is odd while a call is made.
+    steps: AtomicU64,
+    index: AtomicU64,
+    finished: AtomicU64,
+    tally: Tally,
+    kept: Kept,
+    bytes: [u8; MOST_BYTES],
+    outputs: [u16; MOST_OUTPUTS],
+}
+
+/// A handle on the memory.
+#[derive(Clone, Copy)]
+pub struct Board(*mut Shared);
+
+impl Board {
+    /// A board of zeros.
+    pub fn new() -> Board {
+        Board(shared_bytes(std::mem::size_of::<Shared>()).cast())
+    }
+
+    /// The counters, which both processes may use at once.
+    fn counters(&self) -> &Shared {
+        // SAFETY: the memory is mapped for good, and zeros are a valid beginning.
+        unsafe { &*self.0 }
+    }
+
+    /// Says that a run begins, with the counts so far.
+    pub fn begin(&self, tally: &Tally) {
+        self.counters().steps.store(0, Ordering::SeqCst);
+        self.counters().finished.store(0, Ordering::SeqCst);
+        self.keep(tally);
+    }
+
+    /// Says which index runs.
+    pub fn reach(&self, index: u64) {
+        self.counters().index.store(index, Ordering::SeqCst);
+    }
+
+    /// Says that all indices were run.
+    pub fn finish(&self) {
+        self.counters().finished.store(1, Ordering::SeqCst);
+    }
+
+    /// Keeps the counts.
+    pub fn keep(&self, tally: &Tally) {
+        // SAFETY: only the process that makes the calls writes, and the other one reads after its end. Volatile, since
+        // a call may end the process.
+        unsafe { std::ptr::addr_of_mut!((*self.0).tally).write_volatile(*tally) }
+    }
+
+    /// Says that a call is made.
+    pub fn enter(&self, call: &Call) {
+        let (case, bytes, outputs): (Option<Case>, &[u8], Option<&[u16]>) = match call.input {
+            Input::File(bytes) => (None, bytes, None),
+            Input::Case(case) => (Some(*case), &[], None),
+            Input::List(case, list) => (Some(*case), &[], Some(list)),
+        };
+        let list = outputs.unwrap_or(&[]);
+        let kept = Kept {
+            name: call.name,
+            place: call.place,
+            work: call.work,
+            lent: call.lent,
+            case,
+            bytes: bytes.len().min(MOST_BYTES),
+            outputs: outputs.map(|list| list.len().min(MOST_OUTPUTS)),
+        };
+        // SAFETY: as for the counts; what is copied has room.
+        unsafe {
+            std::ptr::addr_of_mut!((*self.0).kept).write_volatile(kept);
+            let room = std::ptr::addr_of_mut!((*self.0).bytes).cast::<u8>();
+            room.copy_from_nonoverlapping(bytes.as_ptr(), kept.bytes);
+            let room = std::ptr::addr_of_mut!((*self.0).outputs).cast::<u16>();
+            room.copy_from_nonoverlapping(list.as_ptr(), list.len().min(MOST_OUTPUTS));
+        }
+        self.counters().steps.fetch_add(1, Ordering::SeqCst);
+    }
+
+    /// Says that the call has returned.
+    pub fn leave(&self) {
+        self.counters().steps.fetch_add(1, Ordering::SeqCst);
+    }
+
+    /// How many times a call was entered or left; odd while one is made.
+    pub fn steps(&self) -> u64 {
+        self.counters().steps.load(Ordering::SeqCst)
+    }
+
+    /// The index that was reached.
+    pub fn index(&self) -> u64 {
+        self.counters().index.load(Ordering::SeqCst)
+    }
+
+    /// Whether all indices were run.
+    pub fn finished(&self) -> bool {
+        self.counters().finished.load(Ordering::SeqCst) == 1
+    }
+
+    /// The counts, once the other process has ended.
+    pub fn tally(&self) -> Tally {
+        self.counters().tally
+    }
+
+    /// The call that the other process ended in; none if it was making none.
+    pub fn call(&self) -> Option<Call<'_>> {
+        if self.steps() % 2 == 0 {
+            return None;
+        }
+        let shared = self.counters();
+        let kept = &shared.kept;
+        let input = match (&kept.case, kept.outputs) {
+            (None, _) => Input::File(&shared.bytes[..kept.bytes]),
+            (Some(case), None) => Input::Case(case),
+            (Some(case), Some(count)) => Input::List(case, &shared.outputs[..count]),
+        };
+        let Kept { name, place, work, lent, .. } = *kept;
+        Some(Call { name, place, work, lent, input })
+    }
+}

@@ -1,0 +1,123 @@
+//! How a difference is printed: the call with the memory it was lent, what differs, the case saved as a file, and the
+//! commands that run it again.
+
+use crate::calls::{Call, Input, Name};
+use oracle::case::Case;
+use oracle::file;
+use std::path::{Path, PathBuf};
+
+/// Most bytes of a list in a command.
+const MOST_LISTED: usize = 100;
+
+/// What is running, as the command line has it.
+#[derive(Default)]
+pub struct Source {
+    /// Words that run the same index again, in the same memory.
+    again: String,
+    /// The name of the case, for the file in which it is saved.
+    name: String,
+    /// A file that was named on the command line, and its bytes.
+    given: Option<(PathBuf, Vec<u8>)>,
+}
+
+impl Source {
+    /// An index of a group.
+    pub fn of_index(group: &str, seed: u64, index: u64) -> Source {
+        let again = format!("--seed {seed:#x} --groups {group} --index {index}");
+        Source { again, name: format!("{group}-{index}"), given: None }
+    }
+
+    /// A file, and a list to check.
+    pub fn of_file(path: &Path, bytes: &[u8], list: Option<&[u16]>) -> Source {
+        let again = format!("--case {}{}", quoted(path), list.map_or(String::new(), list_words));
+        Source { again, name: "case".to_string(), given: Some((path.to_path_buf(), bytes.to_vec())) }
+    }
+}
+
+/// Prints the block of a process that was ended while no call was made.
+pub fn show_outside(source: &Source, how: &str) {
+    println!("DIFFERENCE {}: between two calls\n  given     {how}", source.name);
+    println!("  again     {} {}", program(), source.again);
+}
+
+/// Prints one block.
+pub fn show(source: &Source, call: &Call, difference: &str) {
+    println!("DIFFERENCE {}: {}", source.name, call.name.word());
+    println!("  call      {}", call.words());
+    println!("{difference}");
+    let case = match call.input {
+        Input::File(bytes) => kept(source, call.name, bytes),
+        Input::Case(case) | Input::List(case, _) => kept_case(source, call.name, case),
+    };
+    if let Input::List(_, list) = call.input {
+        println!("  list      {}", numbers(list));
+    }
+    println!("  again     {} {}", program(), source.again);
+    if let (Some(path), None) = (case, &source.given) {
+        let list = match call.input {
+            Input::List(_, list) if list.len() <= MOST_LISTED => list_words(list),
+            _ => String::new(),
+        };
+        println!("  alone     {} --case {}{list}", program(), quoted(&path));
+    }
+}
+
+/// Saves a case as a file, and prints its name; a record that no file holds is printed.
+fn kept_case(source: &Source, call: Name, case: &Case) -> Option<PathBuf> {
+    match file::write(case) {
+        Ok(bytes) => kept(source, call, &bytes),
+        Err(number) => {
+            println!("  case      in no file, since it is refused with {number}: {case:?}");
+            None
+        }
+    }
+}
+
+/// Saves the bytes of a file and prints its name.
+fn kept(source: &Source, call: Name, bytes: &[u8]) -> Option<PathBuf> {
+    let path = match &source.given {
+        Some((path, given)) if given == bytes => path.clone(),
+        _ => saved(&format!("{}-{}.case", source.name, call.word()), bytes)?,
+    };
+    println!("  case      {}", path.display());
+    Some(path)
+}
+
+/// Writes a file into the folder `differences` beside this program.
+fn saved(name: &str, bytes: &[u8]) -> Option<PathBuf> {
+    let path = std::env::current_exe().ok()?.parent()?.join("differences").join(name);
+    let written = std::fs::create_dir_all(path.parent()?).and_then(|()| std::fs::write(&path, bytes));
+    if let Err(error) = written {
+        println!("  case      not saved: {}: {error}", path.display());
+        return None;
+    }
+    Some(path)
+}
+
+/// A list as words of the command line.
+fn list_words(list: &[u16]) -> String {
+    format!(" --list {}", numbers(list))
+}
+
+/// Outputs with commas between; `none` for a list of none.
+fn numbers(list: &[u16]) -> String {
+    match list.len() {
+        0 => "none".to_string(),
+        _ => list.iter().map(u16::to_string).collect::<Vec<_>>().join(","),
+    }
+}
+
+/// This program, to be run from anywhere.
+fn program() -> String {
+    quoted(&std::env::current_exe().unwrap_or_else(|_| PathBuf::from("compare")))
+}
+
+/// A path as one word of a shell.
+fn quoted(path: &Path) -> String {
+    let text = path.display().to_string();
+    let plain = |letter: char| letter.is_ascii_alphanumeric() || "/._-+".contains(letter);
+    if text.chars().all(plain) {
+        return text;
+    }
+    format!("'{}'", text.replace('\'', r"'\''"))
+}
