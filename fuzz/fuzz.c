@@ -3,7 +3,9 @@
  *   as a file, up to the end that its pairs name, and the rest as outputs of a list to check;
  *   as a record, byte for byte, with counts and numbers of any size;
  *   as a record brought within the limits, so that every input is also searched.
- * Whatever the answers have to agree in is tested; any difference aborts.
+ * Every answer is compared with that of the independent scheduler of tests/oracle; its search is left out on
+ * large days, where it takes too long. Whatever the answers have to agree in among themselves is tested too.
+ * Any difference aborts.
  */
 #include "giqapsun.h"
 #include <stdio.h>
@@ -13,13 +15,22 @@
 /* Elements before and after the lent ones, which no call may change. */
 #define MARGIN 16
 
-#define HOLDS(fact)                                                   \
-    do {                                                              \
-        if (!(fact)) {                                                \
-            fprintf(stderr, "line %d: not so: %s\n", __LINE__, #fact); \
-            abort();                                                  \
-        }                                                             \
+#define HOLDS(fact)                                                           \
+    do {                                                                      \
+        if (!(fact)) {                                                        \
+            fprintf(stderr, "fuzz/fuzz.c:%d: not so: %s\n", __LINE__, #fact); \
+            abort();                                                          \
+        }                                                                     \
     } while (0)
+
+/* The independent scheduler: the same calls; its search needs no memory to work in, only how much is lent. */
+struct giqapsun_reading oracle_read(const uint8_t *file, size_t n);
+struct giqapsun_written oracle_write(struct giqapsun_case c, uint8_t *bytes, size_t n);
+struct giqapsun_verdict oracle_check(struct giqapsun_case c, const uint16_t *list, size_t n);
+struct giqapsun_plan oracle_best(struct giqapsun_case c, size_t n, uint16_t *outputs, size_t m);
+
+/* Hours times outputs up to which the independent search is asked. */
+#define SEARCHED 2000
 
 /* Noise that depends on the input alone (xorshift). */
 static uint64_t state;
@@ -63,6 +74,15 @@ static int64_t work[MARGIN + GIQAPSUN_WORK + MARGIN], work_before[MARGIN + GIQAP
 static uint16_t outputs[MARGIN + GIQAPSUN_HOURS + MARGIN], outputs_before[MARGIN + GIQAPSUN_HOURS + MARGIN];
 static uint8_t file[MARGIN + GIQAPSUN_FILE_MOST + MARGIN], file_before[MARGIN + GIQAPSUN_FILE_MOST + MARGIN];
 
+/* giqapsun_read, compared. */
+static struct giqapsun_reading read_in(const uint8_t *bytes, size_t n)
+{
+    struct giqapsun_reading reading = giqapsun_read(bytes, n), expected = oracle_read(bytes, n);
+    HOLDS(reading.number == expected.number);
+    HOLDS(memcmp(&reading.c, &expected.c, sizeof reading.c) == 0);
+    return reading;
+}
+
 /* giqapsun_write into so many bytes, with the memory filled and compared. */
 static struct giqapsun_written written_in(struct giqapsun_case c, size_t n)
 {
@@ -75,6 +95,10 @@ static struct giqapsun_written written_in(struct giqapsun_case c, size_t n)
     HOLDS(memcmp(file, file_before, MARGIN) == 0);
     size_t end = MARGIN + w.length;
     HOLDS(memcmp(file + end, file_before + end, sizeof file - end) == 0);
+    uint8_t bytes[GIQAPSUN_FILE_MOST];
+    struct giqapsun_written expected = oracle_write(c, bytes, n);
+    HOLDS(w.number == expected.number && w.length == expected.length);
+    HOLDS(memcmp(file + MARGIN, bytes, w.length) == 0);
     return w;
 }
 
@@ -99,6 +123,19 @@ static struct giqapsun_plan best_in(struct giqapsun_case c, size_t n, size_t m)
     return plan;
 }
 
+/* best_in, compared. */
+static struct giqapsun_plan best_as_expected(struct giqapsun_case c, size_t n, size_t m)
+{
+    struct giqapsun_plan plan = best_in(c, n, m);
+    if ((c.capacity - c.minimum + 1u) * c.hours <= SEARCHED) {
+        uint16_t list[GIQAPSUN_HOURS];
+        struct giqapsun_plan expected = oracle_best(c, n, list, m);
+        HOLDS(plan.number == expected.number && plan.profit == expected.profit);
+        HOLDS(plan.number != 0 || memcmp(outputs + MARGIN, list, c.hours * sizeof *list) == 0);
+    }
+    return plan;
+}
+
 /* giqapsun_check, with the list compared and the answer's form tested. */
 static struct giqapsun_verdict checked(struct giqapsun_case c, const uint16_t *list, size_t n)
 {
@@ -106,6 +143,9 @@ static struct giqapsun_verdict checked(struct giqapsun_case c, const uint16_t *l
     memcpy(before, list, n * sizeof *list);
     struct giqapsun_verdict verdict = giqapsun_check(c, list, n);
     HOLDS(memcmp(before, list, n * sizeof *list) == 0);
+    struct giqapsun_verdict expected = oracle_check(c, list, n);
+    HOLDS(verdict.number == expected.number && verdict.profit == expected.profit);
+    HOLDS(verdict.hour == expected.hour && verdict.rule == expected.rule);
     if (verdict.number != 0)
         HOLDS(verdict.hour == 0 && verdict.rule == 0 && verdict.profit == 0);
     else if (verdict.rule != 0)
@@ -146,7 +186,7 @@ static void try_accepted(struct giqapsun_case c, const uint8_t *bytes, size_t n,
     HOLDS(best_in(c, GIQAPSUN_WORK - 1, GIQAPSUN_HOURS).number == 10);
     HOLDS(best_in(c, GIQAPSUN_WORK, c.hours - 1).number == 10);
 
-    struct giqapsun_plan plan = best_in(c, GIQAPSUN_WORK, c.hours);
+    struct giqapsun_plan plan = best_as_expected(c, GIQAPSUN_WORK, c.hours);
     HOLDS(plan.number == 0 || plan.number == 11);
     uint16_t best[GIQAPSUN_HOURS] = {0}, list[GIQAPSUN_HOURS + 1] = {0};
     if (plan.number == 0) {
@@ -177,7 +217,7 @@ static void try_accepted(struct giqapsun_case c, const uint8_t *bytes, size_t n,
 static void try_file(const uint8_t *bytes, size_t n, struct bytes *rest)
 {
     static const struct giqapsun_case zero;
-    struct giqapsun_reading reading = giqapsun_read(bytes, n);
+    struct giqapsun_reading reading = read_in(bytes, n);
     HOLDS(reading.number <= 8);
     if (reading.number != 0)
         HOLDS(memcmp(&reading.c, &zero, sizeof zero) == 0);
@@ -198,7 +238,7 @@ static void try_record(struct giqapsun_case c, struct bytes *rest)
     }
     uint8_t bytes[GIQAPSUN_FILE_MOST];
     memcpy(bytes, file + MARGIN, w.length);
-    struct giqapsun_reading reading = giqapsun_read(bytes, w.length);
+    struct giqapsun_reading reading = read_in(bytes, w.length);
     HOLDS(reading.number == 0);
     HOLDS(reading.c.rises == c.rises && reading.c.falls == c.falls && reading.c.hours == c.hours);
     HOLDS(memcmp(reading.c.prices, c.prices, c.hours * sizeof *c.prices) == 0);

@@ -5,6 +5,7 @@
 // What the papers say.
 pub mod answers;
 pub mod best;
+pub mod c;
 pub mod case;
 pub mod days;
 pub mod dp;

@@ -1,37 +1,8 @@
 //! The library's C boundary: structs by value, slices as pointer and length. The names end in 1, the number of
 //! the record's layout.
 
+use oracle::c::{Plan, Reading, Verdict, Written};
 use oracle::case::Case;
-
-/// What reading gives.
-#[repr(C)]
-pub struct Reading {
-    pub number: u32,
-    pub case: Case,
-}
-
-/// What writing gives.
-#[repr(C)]
-pub struct Written {
-    pub number: u32,
-    pub length: usize,
-}
-
-/// What the check gives.
-#[repr(C)]
-pub struct Verdict {
-    pub number: u32,
-    pub hour: u32,
-    pub rule: u32,
-    pub profit: i64,
-}
-
-/// What the search gives.
-#[repr(C)]
-pub struct Plan {
-    pub number: u32,
-    pub profit: i64,
-}
 
 extern "C" {
     /// Reads a case from the bytes of a file.

@@ -1,0 +1,83 @@
+//! The structs of the C boundary, and the answers of the independent scheduler as C calls, for the fuzz target.
+
+use crate::answers;
+use crate::case::Case;
+use crate::dp::best_list;
+use std::slice;
+
+/// What reading gives.
+#[repr(C)]
+pub struct Reading {
+    pub number: u32,
+    pub case: Case,
+}
+
+/// What writing gives.
+#[repr(C)]
+pub struct Written {
+    pub number: u32,
+    pub length: usize,
+}
+
+/// What the check gives.
+#[repr(C)]
+pub struct Verdict {
+    pub number: u32,
+    pub hour: u32,
+    pub rule: u32,
+    pub profit: i64,
+}
+
+/// What the search gives.
+#[repr(C)]
+pub struct Plan {
+    pub number: u32,
+    pub profit: i64,
+}
+
+/// Reads a case from the bytes of a file.
+///
+/// # Safety
+///
+/// So many bytes can be read.
+#[no_mangle]
+pub unsafe extern "C" fn oracle_read(file: *const u8, count: usize) -> Reading {
+    let answers::Reading { number, case } = answers::reading(slice::from_raw_parts(file, count));
+    Reading { number, case }
+}
+
+/// Writes a case as the bytes of a file.
+///
+/// # Safety
+///
+/// So many bytes can be written.
+#[no_mangle]
+pub unsafe extern "C" fn oracle_write(case: Case, bytes: *mut u8, count: usize) -> Written {
+    let answer = answers::writing(&case, count);
+    slice::from_raw_parts_mut(bytes, count)[..answer.bytes.len()].copy_from_slice(&answer.bytes);
+    Written { number: answer.number, length: answer.bytes.len() }
+}
+
+/// Checks a list of outputs.
+///
+/// # Safety
+///
+/// So many outputs can be read.
+#[no_mangle]
+pub unsafe extern "C" fn oracle_check(case: Case, list: *const u16, count: usize) -> Verdict {
+    let answers::Verdict { number, hour, rule, profit } =
+        answers::verdict(&case, slice::from_raw_parts(list, count));
+    Verdict { number, hour, rule, profit }
+}
+
+/// Finds the best list of outputs, as if so many numbers were lent to work in.
+///
+/// # Safety
+///
+/// So many outputs can be written.
+#[no_mangle]
+pub unsafe extern "C" fn oracle_best(case: Case, numbers: usize, outputs: *mut u16, count: usize) -> Plan {
+    let answer = answers::schedule(&case, numbers, count, best_list);
+    slice::from_raw_parts_mut(outputs, count)[..answer.list.len()].copy_from_slice(&answer.list);
+    Plan { number: answer.number, profit: answer.profit }
+}
