@@ -8,11 +8,11 @@ broken() {
     exit 1
 }
 
-# quietly NAME COMMAND..: runs a command, with all that it prints in target/log/NAME
+# quietly NAME COMMAND..: runs a command, with all that it prints in target/outside/NAME.log
 quietly() {
-    local log=$PWD/target/log/$1
+    local log=$PWD/target/outside/$1.log
     shift
-    mkdir -p target/log
+    mkdir -p target/outside
     "$@" >"$log" 2>&1 || broken "failed: $* (see $log)"
 }
 
