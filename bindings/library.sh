@@ -1,6 +1,7 @@
 # To be sourced from the repository's root: sets GIQAPSUN_LIB_DIR to the folder of libgiqapsun.a, as an absolute path,
-# and has the commands that build from it. Where it was not set, the library is proved and built in target/staticlib.
-# What goes wrong is one line, and ends the script that sources this.
+# and has the commands that build from it. Where it was not set, the library is proved and built in target/staticlib,
+# unless it is newer there than every file of crates/. What goes wrong is one line, and ends the script that sources
+# this.
 
 # broken MESSAGE: prints the line and ends
 broken() {
@@ -25,7 +26,10 @@ shared() {
 
 if [ -z "${GIQAPSUN_LIB_DIR:-}" ]; then
     GIQAPSUN_LIB_DIR=$PWD/target/staticlib
-    quietly staticlib rt staticlib giqapsun
+    if ! [ -f target/staticlib/libgiqapsun.a ] ||
+        [ -n "$(find crates crates.txt -newer target/staticlib/libgiqapsun.a -print -quit)" ]; then
+        quietly staticlib rt staticlib giqapsun
+    fi
 fi
 [ -f "$GIQAPSUN_LIB_DIR/libgiqapsun.a" ] ||
     broken "no libgiqapsun.a in $GIQAPSUN_LIB_DIR, the folder that GIQAPSUN_LIB_DIR names"
