@@ -28,6 +28,8 @@ if [ -z "${GIQAPSUN_LIB_DIR:-}" ]; then
     GIQAPSUN_LIB_DIR=$PWD/target/staticlib
     if ! [ -f target/staticlib/libgiqapsun.a ] ||
         [ -n "$(find crates crates.txt -newer target/staticlib/libgiqapsun.a -print -quit)" ]; then
+        command -v rt >/dev/null ||
+            broken "no libgiqapsun.a: name its folder in GIQAPSUN_LIB_DIR, or install rt, which proves and builds it"
         quietly staticlib rt staticlib giqapsun
     fi
 fi

@@ -144,7 +144,7 @@ impl Board {
 
     /// The call that the other process ended in; none if it was making none.
     pub fn call(&self) -> Option<Call<'_>> {
-        if self.steps() % 2 == 0 {
+        if self.steps() & 1 == 0 {
             return None;
         }
         let shared = self.counters();

@@ -21,7 +21,7 @@ use run::{remark, Run, MOST_SHOWN};
 use std::ops::Range;
 use std::process::ExitCode;
 use std::time::{Duration, Instant};
-use watch::{watched, End};
+use watch::{end_with_reader, watched, End};
 use wishes::{listed, wishes, Wishes, USAGE};
 
 /// Most times that a group goes on after the library ended its process or gave no answer.
@@ -131,6 +131,7 @@ fn run_groups(wishes: &Wishes) -> (u64, u64) {
 
 /// The exit status is 1 if anything differs, 2 if the command line is not understood.
 fn main() -> ExitCode {
+    end_with_reader();
     let wishes = match wishes(std::env::args().skip(1)) {
         Ok(wishes) => wishes,
         Err(fault) => {

@@ -12,11 +12,22 @@ const PAUSE: Duration = Duration::from_millis(2);
 // Values of Linux.
 const WITHOUT_WAITING: i32 = 1;
 const KILL: i32 = 9;
+const BROKEN_PIPE: i32 = 13;
+const AS_USUAL: usize = 0;
 
 extern "C" {
     fn fork() -> i32;
     fn waitpid(process: i32, status: *mut i32, options: i32) -> i32;
     fn kill(process: i32, signal: i32) -> i32;
+    fn signal(number: i32, handler: usize) -> usize;
+}
+
+/// Lets this program end silently where nobody reads what it prints, as others do.
+pub fn end_with_reader() {
+    // SAFETY: the usual way to end takes no handler.
+    unsafe {
+        signal(BROKEN_PIPE, AS_USUAL);
+    }
 }
 
 /// How the other process ended.

@@ -68,9 +68,7 @@ pub fn wishes(words: impl Iterator<Item = String>) -> Result<Wishes, String> {
 fn places(names: &str) -> Result<Vec<usize>, String> {
     let place = |name: &str| GROUPS.iter().position(|group| group.name == name);
     let names = names.split(',').filter(|name| !name.is_empty());
-    names
-        .map(|name| place(name).ok_or(format!("{name} is no group")))
-        .collect()
+    names.map(|name| place(name).ok_or(format!("{name} is no group"))).collect()
 }
 
 /// A number in decimal digits, or in hex digits after 0x.
