@@ -17,7 +17,7 @@ quietly() {
     "$@" >"$log" 2>&1 || broken "failed: $* (see $log)"
 }
 
-# shared FOLDER: links the library as libgiqapsun.so.1, the shared library of layout 1, with libgiqapsun.so leading to it
+# shared FOLDER: links the library as libgiqapsun.so.1, that of layout 1, with libgiqapsun.so leading to it
 shared() {
     quietly shared gcc -shared -Wl,-soname,libgiqapsun.so.1 -Wl,--no-undefined \
         -Wl,--whole-archive "$GIQAPSUN_LIB_DIR/libgiqapsun.a" -Wl,--no-whole-archive -o "$1/libgiqapsun.so.1"

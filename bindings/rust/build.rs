@@ -1,5 +1,5 @@
-//! Tells the linker where the static library stands: libgiqapsun.a in the folder GIQAPSUN_LIB_DIR, an absolute path, or,
-//! if that is not set, in target/staticlib of the repository.
+//! Tells the linker where the static library stands: libgiqapsun.a in the folder GIQAPSUN_LIB_DIR, an absolute path,
+//! or, if that is not set, in target/staticlib of the repository.
 
 use std::env;
 use std::path::PathBuf;
@@ -12,8 +12,9 @@ pub fn main() {
     let library = folder.join("libgiqapsun.a");
     println!("cargo::rerun-if-changed={}", library.display());
     if !library.is_file() {
-        let missing = library.display();
-        println!("cargo::error={missing} is missing: run `rt staticlib giqapsun`, or set GIQAPSUN_LIB_DIR to its folder");
+        let (missing, remedy) =
+            (library.display(), "run `rt staticlib giqapsun`, or set GIQAPSUN_LIB_DIR to its folder");
+        println!("cargo::error={missing} is missing: {remedy}");
     }
     println!("cargo::rustc-link-search=native={}", folder.display());
     println!("cargo::rustc-link-lib=static=giqapsun");

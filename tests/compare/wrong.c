@@ -42,6 +42,8 @@ struct giqapsun_written giqapsun_write(struct giqapsun_case c, uint8_t *bytes, s
         abort();
     if (wrong("exit") && written.number == 0)
         exit(0);
+    if (wrong("refusal") && written.number == 3)
+        written.number = 4;
     return written;
 }
 
@@ -63,6 +65,8 @@ struct giqapsun_plan giqapsun_best(struct giqapsun_case c, int64_t *work, size_t
         plan.profit += 1;
     if (wrong("work") && plan.number == 11)
         work[8191] = 1;
+    if (wrong("past") && plan.number == 0 && c.hours < GIQAPSUN_HOURS && c.prices[c.hours] > 0)
+        plan.profit += 1;
     if (wrong("outside") && plan.number == 0)
         outputs[m] = 0;
     return plan;

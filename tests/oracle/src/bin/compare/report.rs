@@ -6,7 +6,7 @@ use oracle::case::Case;
 use oracle::file;
 use std::path::{Path, PathBuf};
 
-/// Most bytes of a list in a command.
+/// Most outputs of a list in a command.
 const MOST_LISTED: usize = 100;
 
 /// What is running, as the command line has it.
@@ -62,10 +62,18 @@ pub fn show(source: &Source, call: &Call, difference: &str) {
     }
 }
 
-/// Saves a case as a file, and prints its name; a record that no file holds is printed.
+/// Saves a case as a file, and prints its name; a record that no file holds is printed. Gives the file if it holds all
+/// of the record.
 fn kept_case(source: &Source, call: Name, case: &Case) -> Option<PathBuf> {
     match file::write(case) {
-        Ok(bytes) => kept(source, call, &bytes),
+        Ok(bytes) => {
+            let path = kept(source, call, &bytes);
+            if *case == case.zeroed_past_counts() {
+                return path;
+            }
+            println!("            without the numbers past its counts: {case:?}");
+            None
+        }
         Err(number) => {
             println!("  case      in no file, since it is refused with {number}: {case:?}");
             None
