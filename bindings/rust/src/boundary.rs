@@ -124,7 +124,7 @@ pub struct Written {
 pub struct Verdict {
     /// 0, or the number of the refusal.
     pub number: u32,
-    /// The earliest hour at which a rule is broken, from 0.
+    /// The earliest hour at which a rule is broken, from 0; 0 also where none is.
     pub hour: u32,
     /// 0, or the lowest rule broken at that hour.
     pub rule: u32,
