@@ -1,11 +1,17 @@
-"""The Python module: known days, the source's day, refusals, and numbers that fit no record."""
+"""The Python module: known days, the source's day, refusals, numbers that fit no record, the library that it loads,
+and the module as it is installed."""
 
 import doctest
+import os
 import pickle
 import re
+import subprocess
+import sys
+import tempfile
+import typing
 import unittest
 from contextlib import chdir
-from dataclasses import replace
+from dataclasses import asdict, fields, replace
 from pathlib import Path
 
 import giqapsun
@@ -76,7 +82,6 @@ class Days(unittest.TestCase):
         with self.assertRaises(TypeError):
             read(16)
 
-
     def test_session_of_the_page(self):
         """The session printed for the trading desk, as printed."""
         with chdir(ROOT):
@@ -129,12 +134,11 @@ class Refusals(unittest.TestCase):
         self.assertEqual(Refusal(12).number, 12)
         self.assertEqual(pickle.loads(pickle.dumps(Refusal(3))).number, 3)
 
-    def test_texts_are_those_of_the_header(self):
-        header = (ROOT / "include/giqapsun.h").read_text()
-        part = header[header.index("Refusals:") : header.index("Rules that a list may break")]
-        rows = re.findall(r"^ \*   (\d+) +(.*(?:\n \*       .*)*)", part, re.MULTILINE)
-        listed = {int(number): re.sub(r"\s*\n \* +", " ", text) for number, text in rows}
-        self.assertEqual(giqapsun.REFUSALS, listed)
+    def test_texts_are_those_of_the_tables(self):
+        for texts, name in ((giqapsun.REFUSALS, "refusals.tsv"), (giqapsun.RULES, "rules.tsv")):
+            rows = (line.split("\t") for line in (ROOT / "texts" / name).read_text().splitlines())
+            self.assertEqual(list(texts.items()), [(int(number), text) for number, text in rows])
+        self.assertEqual(Breaks(11, 5).text, "ramp-up limit RU")
 
 
 class Widths(unittest.TestCase):
@@ -162,6 +166,146 @@ class Widths(unittest.TestCase):
         self.assertIsInstance(check(case, [65_535, 1, 0]), Breaks)
         for output in (65_536, -1, 1.0, "1"):
             self.assertRaises(ValueError, check, case, [output, 1, 0])
+
+
+class Index:
+    """A whole number of another kind, as numpy's are."""
+
+    def __init__(self, number):
+        self.number = number
+
+    def __index__(self):
+        return self.number
+
+
+class Kinds(unittest.TestCase):
+    """Whole numbers of other kinds, attributes that there are not, and types."""
+
+    def test_whole_numbers_of_other_kinds(self):
+        case = read(CASE_7)
+        fields_of_others = {
+            name: [Index(entry) for entry in value] if isinstance(value, list) else Index(value)
+            for name, value in asdict(case).items()
+        }
+        others = Case(**fields_of_others)
+        self.assertEqual(write(others), CASE_7)
+        self.assertEqual(best(others), best(case))
+        self.assertEqual(check(others, map(Index, [2, 1, 0])), Passes(-53))
+        self.assertEqual(check(case, (2, 1, 0)), Passes(-53))
+        for wrong in (Index(65_536), Index(-1)):
+            self.assertRaises(ValueError, write, replace(case, capacity=wrong))
+            self.assertRaises(ValueError, check, case, [wrong, 1, 0])
+
+    def test_lists_that_are_none(self):
+        case = read(CASE_7)
+        for wrong in (None, 5, 2.5):
+            self.assertRaises(ValueError, write, replace(case, rise=wrong))
+            self.assertRaises(ValueError, check, case, wrong)
+
+    def test_unknown_attributes(self):
+        case = read(CASE_7)
+        for name in ("ramp_up", "startup", "price"):
+            with self.assertRaises(AttributeError):
+                setattr(case, name, 1)
+        with self.assertRaises(TypeError):
+            Case(ramp_up=1)
+        for answer in (Passes(1), Breaks(1, 2), best(case)):
+            with self.assertRaises((AttributeError, TypeError)):
+                answer.other = 1
+            self.assertEqual(pickle.loads(pickle.dumps(answer)), answer)
+        self.assertEqual(pickle.loads(pickle.dumps(case)), case)
+
+    def test_types(self):
+        self.assertTrue((Path(giqapsun.__file__).parent / "py.typed").exists())
+        for call in (read, write, check, best, giqapsun.library_file):
+            hints = typing.get_type_hints(call)
+            self.assertEqual(len(hints), call.__code__.co_argcount + 1)
+        for kind in (Case, Passes, Breaks, Plan):
+            self.assertEqual(set(typing.get_type_hints(kind)), {field.name for field in fields(kind)})
+
+    def test_names_are_those_of_the_header(self):
+        """The record's fields, by the same words in the header and in the module."""
+        header = (ROOT / "include/giqapsun.h").read_text()
+        struct = re.search(r"struct giqapsun_case \{(.*?)\};", header, re.DOTALL)[1]
+        names = re.findall(r"^\s*\w+ (\w+)(?:\[\w+\])?;", struct, re.MULTILINE)
+        self.assertEqual(names, [field.name for field in fields(Case)] + ["rises", "falls", "hours"])
+
+    def test_version(self):
+        """The module's version is the header's, where the header says one."""
+        self.assertRegex(giqapsun.__version__, r"\A\d+\.\d+\.\d+\Z")
+        header = (ROOT / "include/giqapsun.h").read_text()
+        for version in re.findall(r'^#define GIQAPSUN_VERSION "(.*)"', header, re.MULTILINE):
+            self.assertEqual(giqapsun.__version__, version)
+
+
+class Library(unittest.TestCase):
+    """The library that is loaded, and the module as it is installed."""
+
+    def setUp(self):
+        folder = tempfile.TemporaryDirectory()
+        self.addCleanup(folder.cleanup)
+        self.folder = Path(folder.name)
+
+    def run_python(self, text, **environment):
+        """What a program prints, and its last line of complaint."""
+        clear = {name: value for name, value in os.environ.items() if not name.startswith(("GIQAPSUN_", "PYTHONPATH"))}
+        done = subprocess.run(
+            [sys.executable, "-c", text, ROOT], cwd=self.folder, env={**clear, **environment}, text=True,
+            capture_output=True, check=False,
+        )
+        return done.stdout, "".join(done.stderr.splitlines()[-1:])
+
+    def complaint(self, **environment):
+        """The last line of complaint of a first call."""
+        text = "import giqapsun; giqapsun.read(b'')"
+        return self.run_python(text, PYTHONPATH=str(ROOT / "bindings/python"), **environment)[1]
+
+    def test_complaints(self):
+        (self.folder / "stub.c").write_text("int giqapsun_read(void) { return 0; }\n")
+        subprocess.run(["gcc", "-shared", "stub.c", "-o", "stub.so"], cwd=self.folder, check=True)
+        self.assertEqual(
+            self.complaint(GIQAPSUN_LIBRARY="stub.so"),
+            "giqapsun.LibraryError: stub.so has no giqapsun_read_1: "
+            "it is no library of layout 1, the one that this module has",
+        )
+        self.assertEqual(
+            self.complaint(GIQAPSUN_LIBRARY="none.so"),
+            "giqapsun.LibraryError: the library none.so cannot be loaded: no such file",
+        )
+
+    def test_installed(self):
+        """Installed without a network, the package has the library inside and needs nothing else."""
+        site = self.folder / "site"
+        installing = [sys.executable, "-m", "pip", "install", "--quiet", "--no-index", "--disable-pip-version-check"]
+        done = subprocess.run(
+            [*installing, "--root-user-action=ignore", "--target", site, ROOT / "bindings/python"],
+            capture_output=True, text=True, check=False,
+        )
+        self.assertEqual((done.returncode, done.stderr), (0, ""))
+        text = """
+import importlib.metadata, pathlib, sys, giqapsun
+case = giqapsun.read(pathlib.Path(sys.argv[1], "cases/source.case").read_bytes())
+print(giqapsun.best(case).profit, giqapsun.library_file().relative_to(pathlib.Path.cwd().resolve()))
+print(importlib.metadata.version("giqapsun"), pathlib.Path(giqapsun.__file__).with_name("py.typed").exists())
+"""
+        printed = f"33546962 site/giqapsun/libgiqapsun.so\n{giqapsun.__version__} True\n"
+        self.assertEqual(self.run_python(text, PYTHONPATH=str(site)), (printed, ""))
+        # without the library the package says so, in a line
+        (site / "giqapsun/libgiqapsun.so").unlink()
+        missing = "libgiqapsun.so is not built: run bindings/build.sh, or set GIQAPSUN_LIBRARY"
+        self.assertEqual(
+            self.run_python(text, PYTHONPATH=str(site)), ("", f"giqapsun.LibraryError: {missing}")
+        )
+
+    def test_not_installed_without_a_library(self):
+        """No wheel is built without the library."""
+        text = "import giqapsun_backend; giqapsun_backend.build_wheel('.')"
+        printed, message = self.run_python(
+            text, PYTHONPATH=str(ROOT / "bindings/python/backend"), GIQAPSUN_LIBRARY="none.so"
+        )
+        self.assertEqual(printed, "")
+        self.assertEqual(message, "giqapsun: none.so is not there: run bindings/build.sh, or set GIQAPSUN_LIBRARY")
+        self.assertEqual(list(self.folder.iterdir()), [])
 
 
 if __name__ == "__main__":

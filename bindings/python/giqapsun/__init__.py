@@ -1,0 +1,202 @@
+"""The day of one thermal power unit: case files are read and written, a list of hourly outputs is checked
+against the rules of the day, and the list that earns most is found.
+
+Outputs are whole megawatts, prices and costs mills (thousandths of a dollar), profits half-mills (2,000 to
+the dollar, exact). Hours are counted from 1; hour 0 is the one before the day.
+
+    import giqapsun
+
+    with open("cases/source.case", "rb") as file:
+        case = giqapsun.read(file.read())
+    plan = giqapsun.best(case)
+    print(plan.profit / 2000, "dollars")
+    print(plan.outputs)
+
+The module loads libgiqapsun.so at its first call: the one that GIQAPSUN_LIBRARY names, or the one inside
+this package, or the one that bindings/build.sh makes in target/bindings of the repository.
+"""
+
+import ctypes
+import operator
+import sys
+from collections.abc import Iterable
+from dataclasses import dataclass, field, fields
+from typing import SupportsIndex
+
+if sys.version_info < (3, 11):
+    raise ImportError("giqapsun: Python 3.11 or later is needed")
+
+from ._boundary import FILE_MOST, HOURS, STAGES, WORK, LibraryError, calls, library_file
+from ._boundary import Case as _Case
+from ._texts import REFUSALS, RULES
+
+# structs that only the comparison of layouts looks at, tests/header
+from ._boundary import Plan as _Plan, Reading as _Reading, Verdict as _Verdict, Written as _Written
+
+__version__ = "1.0.0"
+
+__all__ = [
+    "Case", "Passes", "Breaks", "Plan", "Refusal", "LibraryError", "read", "write", "check", "best", "library_file",
+    "FREE", "ON", "OFF", "STAGES", "HOURS", "REFUSALS", "RULES",
+]
+
+# orders of an hour
+FREE, ON, OFF = 0, 1, 2
+
+
+class Refusal(Exception):
+    """A refused call: `number` is that of the refusal list, `text` its condition."""
+
+    def __init__(self, number: int) -> None:
+        super().__init__(number)
+        self.number = number
+        self.text = REFUSALS.get(number, "a number that is not in the refusal list")
+
+    def __str__(self) -> str:
+        return f"refused {self.number}: {self.text}"
+
+
+@dataclass(slots=True)
+class Case:
+    """A case. The lengths of the lists are the counts UD, DD and T."""
+
+    capacity: int = 0  # MW
+    minimum: int = 0  # minimum output, MW
+    rampup: int = 0  # RU, MW per hour
+    rampdown: int = 0  # RD, MW per hour
+    minup: int = 0  # minimum up time, hours
+    mindown: int = 0  # minimum down time, hours
+    variable: int = 0  # F, mills per MWh
+    fixed: int = 0  # A, mills per on-line hour
+    startcost: int = 0  # B, mills per start
+    stopcost: int = 0  # C, mills per stop
+    initial: int = 0  # p(0), MW
+    elapsed: int = 0  # h, hours on-line or off-line before hour 1
+    rise: list[int] = field(default_factory=list)  # PU, MW
+    fall: list[int] = field(default_factory=list)  # PD, MW
+    prices: list[int] = field(default_factory=list)  # mills per MWh, that of hour k at k - 1
+    orders: list[int] = field(default_factory=list)  # FREE, ON or OFF, that of hour k at k - 1
+
+
+@dataclass(frozen=True, slots=True)
+class Passes:
+    """A list that keeps every rule, and what it earns in half-mills."""
+
+    profit: int
+
+
+@dataclass(frozen=True, slots=True)
+class Breaks:
+    """The earliest hour at which a list breaks a rule, and the lowest rule broken there."""
+
+    hour: int
+    rule: int
+
+    @property
+    def text(self) -> str:
+        """The words for the rule."""
+        return RULES.get(self.rule, "a number that is no rule's")
+
+
+@dataclass(frozen=True, slots=True)
+class Plan:
+    """The best list, that of hour k at k - 1, in MW, and what it earns in half-mills."""
+
+    outputs: list[int]
+    profit: int
+
+
+def read(file: bytes | bytearray | memoryview) -> Case:
+    """The case in the bytes of a file; refusals 1 to 8."""
+    file = bytes(memoryview(file))
+    reading = calls().read(_lent(ctypes.c_uint8, file), len(file))
+    _test(reading.number)
+    record = reading.c
+    case = Case(**{name: getattr(record, name) for name in _NUMBERS})
+    case.rise, case.fall = record.rise[: record.rises], record.fall[: record.falls]
+    case.prices, case.orders = record.prices[: record.hours], record.orders[: record.hours]
+    return case
+
+
+def write(case: Case) -> bytes:
+    """The bytes of a case's file; refusals 2 to 8."""
+    lent = _lent(ctypes.c_uint8, bytes(FILE_MOST))
+    written = calls().write(_record(case), lent, FILE_MOST)
+    _test(written.number)
+    return bytes(lent[: written.length])
+
+
+def check(case: Case, outputs: Iterable[SupportsIndex]) -> Passes | Breaks:
+    """Passes or Breaks, for a list of outputs; refusals 2 to 9."""
+    listed = _entries("outputs", outputs, 2**16 - 1)
+    verdict = calls().check(_record(case), _lent(ctypes.c_uint16, listed), len(listed))
+    _test(verdict.number)
+    return Breaks(verdict.hour, verdict.rule) if verdict.rule else Passes(verdict.profit)
+
+
+def best(case: Case) -> Plan:
+    """The list that keeps every rule and earns most; refusals 2 to 8 and 11.
+
+    Among equal earners it is the list that is lower at the first hour where two differ.
+    """
+    work, outputs = (ctypes.c_int64 * WORK)(), (ctypes.c_uint16 * HOURS)()
+    plan = calls().best(_record(case), work, WORK, outputs, HOURS)
+    _test(plan.number)
+    return Plan(outputs[: len(case.prices)], plan.profit)
+
+
+_LISTS = ("rise", "fall", "prices", "orders")
+_NUMBERS = tuple(f.name for f in fields(Case) if f.name not in _LISTS)
+_KINDS = dict(_Case._fields_)
+
+
+def _record(case):
+    """The record of a case. A number that does not fit its width is a ValueError."""
+    record = _Case()
+    for name in _NUMBERS:
+        setattr(record, name, _number(name, getattr(case, name), _most(_KINDS[name])))
+    counts = {}
+    for name in _LISTS:
+        room = getattr(record, name)
+        entries = _entries(name, getattr(case, name), _most(room._type_))
+        counts[name] = len(entries)
+        # a longer list cannot be held; its count alone is refused
+        room[: min(len(entries), len(room))] = entries[: len(room)]
+    if counts["prices"] != counts["orders"]:
+        raise ValueError(f"{counts['prices']} prices and {counts['orders']} orders")
+    record.rises, record.falls, record.hours = counts["rise"], counts["fall"], counts["prices"]
+    return record
+
+
+def _most(kind):
+    """The largest number of an unsigned width."""
+    return 256 ** ctypes.sizeof(kind) - 1
+
+
+def _entries(name, values, most):
+    try:
+        listed = list(values)
+    except TypeError:
+        raise ValueError(f"{name}: {values!r} is not a list of whole numbers") from None
+    return [_number(name, value, most) for value in listed]
+
+
+def _number(name, value, most):
+    """A whole number of any kind that says what it is as an index, but no truth value."""
+    try:
+        number = None if isinstance(value, bool) else operator.index(value)
+    except TypeError:
+        number = None
+    if number is None or not 0 <= number <= most:
+        raise ValueError(f"{name}: {value!r} is not a whole number from 0 to {most}")
+    return number
+
+
+def _lent(kind, entries):
+    """An array of the entries; never of none, so that its pointer is always a valid one."""
+    return (kind * max(1, len(entries)))(*entries)
+
+
+def _test(number):
+    if number != 0:
+        raise Refusal(number)

@@ -1,0 +1,134 @@
+"""The structs and calls of include/giqapsun.h, and the shared library that has them."""
+
+import ctypes
+import os
+from functools import lru_cache
+from pathlib import Path
+
+STAGES = 8
+HOURS = 48
+WORK = 8192
+FILE_MOST = 48 + 2 * STAGES * 2 + 3 * HOURS
+
+# the number of the record's layout, which ends the name of each call
+LAYOUT = 1
+
+
+class LibraryError(OSError):
+    """The library is missing, cannot be loaded, or has another layout."""
+
+    __module__ = "giqapsun"
+
+
+class Case(ctypes.Structure):
+    """The record of a case."""
+
+    _fields_ = [
+        ("capacity", ctypes.c_uint16),
+        ("minimum", ctypes.c_uint16),
+        ("rampup", ctypes.c_uint16),
+        ("rampdown", ctypes.c_uint16),
+        ("minup", ctypes.c_uint16),
+        ("mindown", ctypes.c_uint16),
+        ("variable", ctypes.c_uint32),
+        ("fixed", ctypes.c_uint32),
+        ("startcost", ctypes.c_uint32),
+        ("stopcost", ctypes.c_uint32),
+        ("initial", ctypes.c_uint16),
+        ("elapsed", ctypes.c_uint16),
+        ("rise", ctypes.c_uint16 * STAGES),
+        ("fall", ctypes.c_uint16 * STAGES),
+        ("prices", ctypes.c_uint16 * HOURS),
+        ("orders", ctypes.c_uint8 * HOURS),
+        ("rises", ctypes.c_size_t),
+        ("falls", ctypes.c_size_t),
+        ("hours", ctypes.c_size_t),
+    ]
+
+
+class Reading(ctypes.Structure):
+    """Number 0 and the case, or a refusal."""
+
+    _fields_ = [("number", ctypes.c_uint32), ("c", Case)]
+
+
+class Written(ctypes.Structure):
+    """Number 0 and how many bytes were written, or a refusal."""
+
+    _fields_ = [("number", ctypes.c_uint32), ("length", ctypes.c_size_t)]
+
+
+class Verdict(ctypes.Structure):
+    """Number 0, rule 0 and the profit; number 0, hour and rule; or a refusal."""
+
+    _fields_ = [
+        ("number", ctypes.c_uint32),
+        ("hour", ctypes.c_uint32),
+        ("rule", ctypes.c_uint32),
+        ("profit", ctypes.c_int64),
+    ]
+
+
+class Plan(ctypes.Structure):
+    """Number 0 and what the best list earns, or a refusal."""
+
+    _fields_ = [("number", ctypes.c_uint32), ("profit", ctypes.c_int64)]
+
+
+_BYTES = ctypes.POINTER(ctypes.c_uint8)
+_OUTPUTS = ctypes.POINTER(ctypes.c_uint16)
+_NUMBERS = ctypes.POINTER(ctypes.c_int64)
+
+# the calls by their names without the layout's number: what each answers and takes
+_CALLS = {
+    "read": (Reading, [_BYTES, ctypes.c_size_t]),
+    "write": (Written, [Case, _BYTES, ctypes.c_size_t]),
+    "check": (Verdict, [Case, _OUTPUTS, ctypes.c_size_t]),
+    "best": (Plan, [Case, _NUMBERS, ctypes.c_size_t, _OUTPUTS, ctypes.c_size_t]),
+}
+
+
+def library_file() -> Path | None:
+    """The library's file: the one that GIQAPSUN_LIBRARY names, or the one inside this package, or the one
+    that bindings/build.sh makes in target/bindings of the repository; None where there is none."""
+    named = os.environ.get("GIQAPSUN_LIBRARY")
+    if named:
+        return Path(named)
+    package = Path(__file__).resolve().parent
+    places = [package / "libgiqapsun.so"]
+    if package.parent.parts[-2:] == ("bindings", "python"):
+        places.append(package.parents[2] / "target" / "bindings" / "libgiqapsun.so")
+    return next((place for place in places if place.exists()), None)
+
+
+def calls():
+    """The four calls of the library, each under its name without the layout's number."""
+    file = library_file()
+    if file is None:
+        raise LibraryError("libgiqapsun.so is not built: run bindings/build.sh, or set GIQAPSUN_LIBRARY")
+    return _loaded(file)
+
+
+class _Calls:
+    """read, write, check and best."""
+
+    def __init__(self, file, library):
+        for name, (answer, arguments) in _CALLS.items():
+            symbol = f"giqapsun_{name}_{LAYOUT}"
+            try:
+                call = getattr(library, symbol)
+            except AttributeError:
+                what = f"it is no library of layout {LAYOUT}, the one that this module has"
+                raise LibraryError(f"{file} has no {symbol}: {what}") from None
+            call.restype, call.argtypes = answer, arguments
+            setattr(self, name, call)
+
+
+@lru_cache(maxsize=None)
+def _loaded(file):
+    try:
+        library = ctypes.CDLL(str(file.absolute()))
+    except OSError as error:
+        what = "no such file" if not file.exists() else str(error)
+        raise LibraryError(f"the library {file} cannot be loaded: {what}") from None
+    return _Calls(file, library)
