@@ -1,13 +1,13 @@
-"""case best: the table and the plot of an answer, answers that are none, and the program itself."""
+"""case best: the table of an answer, answers that are none, the program and the library."""
 
+import csv
+import io
+import json
 import os
 import re
-import unittest
-import xml.etree.ElementTree as ElementTree
 
-from tool import CASES, FAKE, ROOT, ToolTest, unit
+from tool import CASE_7, FAKE, ROOT, SOURCE, SOURCE_LIST, ToolTest, file_of, known_days, texts, unit
 
-CASE_7 = (CASES / "case7.case").read_bytes()
 CASE_7_ANSWER = "profit -53\n1 2 5\n2 1 3\n3 0 1\n"
 CASE_7_TABLE = """\
 hour  order  price ($/MWh)  output (MW)  energy (MWh)    earnings ($)
@@ -17,29 +17,20 @@ hour  order  price ($/MWh)  output (MW)  energy (MWh)    earnings ($)
 total                                              4.5         -0.0265
 profit -53 half-mills
 """
-SOURCE_LIST = [
-    120, 112, 70, 30, 0, 0, 0, 37, 75, 112, 172, 232, 292, 294, 294, 294, 294, 294, 294, 294, 294, 244, 194,
-    144,
-]
-SVG = "{http://www.w3.org/2000/svg}"
 
 
 def program():
-    """The program that the repository builds, or the one that is named; None if there is none yet."""
-    named = os.environ.get("GIQAPSUN_BEST_DAY")
-    built = ROOT / "target/bin/best_day"
-    return named or (str(built) if (ROOT / "crates/best_day").exists() else None)
+    """The program that the repository builds, or the one that is named."""
+    return os.environ.get("GIQAPSUN_BEST_DAY") or str(ROOT / "target/bin/best_day")
 
 
 class Answered(ToolTest):
-    """Tables and plots of known answers."""
+    """Tables of known answers of a program."""
 
-    def answered(self, data, text, *words):
+    def table(self, data, text, *words):
         """The table for an answer of the program."""
         fake = {"GIQAPSUN_BEST_DAY": str(FAKE), "FAKE_BEST_DAY_TEXT": text}
-        status, printed, message = self.run_tool("best", self.file("d.case", data), *words, **fake)
-        self.assertEqual((status, message), (0, ""))
-        return printed.decode()
+        return self.answered("best", self.file("d.case", data), *words, **fake).decode()
 
     def source_answer(self):
         """The source's day as the program prints it."""
@@ -50,74 +41,62 @@ class Answered(ToolTest):
         return "\n".join(lines) + "\n"
 
     def test_case_7(self):
-        self.assertEqual(self.answered(CASE_7, CASE_7_ANSWER), CASE_7_TABLE)
+        found = f"read by the proved library; found by the program {FAKE}\n"
+        self.assertEqual(self.table(CASE_7, CASE_7_ANSWER), CASE_7_TABLE + found)
 
     def test_source_day(self):
-        table = self.answered((CASES / "source.case").read_bytes(), self.source_answer()).splitlines()
+        table = self.table(SOURCE, self.source_answer()).splitlines()
         self.assertEqual(table[1], "   1  free          26.950          120         145.0     -1,702.2500")
         self.assertEqual(table[8], "   8  free          26.950           37          18.5     -1,154.4250")
         self.assertEqual(table[25], "total                                          4,199.0     16,773.4810")
         self.assertEqual(table[26], "profit 33546962 half-mills")
 
     def test_orders(self):
-        csv = "hour,price_mills,order\n1,10,free\n2,10,on\n3,10,free\n4,10,off\n"
-        data = self.made(unit(initial="0"), csv)
-        table = self.answered(data, "profit -16\n1 1 1\n2 2 3\n3 1 3\n4 0 1\n")
+        csv_text = "hour,price_mills,order\n1,10,free\n2,10,on\n3,10,free\n4,10,off\n"
+        data = self.made(unit(initial="0"), csv_text)
+        table = self.table(data, "profit -16\n1 1 1\n2 2 3\n3 1 3\n4 0 1\n")
         self.assertEqual(re.findall(r"^ +\d+ +(\w+)", table, re.MULTILINE), ["free", "on", "free", "off"])
 
-    def test_plot(self):
-        source = (CASES / "source.case").read_bytes()
-        table = self.answered(source, self.source_answer(), "--plot", "d.svg")
-        self.assertEqual(table, self.answered(source, self.source_answer()))
-        picture = ElementTree.parse(self.folder / "d.svg").getroot()
-        texts = [text.text for text in picture.iter(SVG + "text")]
-        for label in ("Best day of d.case", "output p(k) (MW)", "price ($/MWh)", "capacity", "minimum"):
-            self.assertIn(label, texts)
-        for hour in range(25):
-            self.assertGreaterEqual(texts.count(str(hour)), 2)
-        outputs, prices = [line.get("points").split() for line in picture.iter(SVG + "polyline")]
-        self.assertEqual((len(outputs), len(prices)), (25, 48))
-        heights = [float(point.split(",")[1]) for point in outputs]
-        ranks = [170, *SOURCE_LIST]
-        for (a, high), (b, low) in zip(zip(ranks, heights), zip(ranks[1:], heights[1:])):
-            self.assertEqual((a > b, a < b), (high < low, high > low))
-        self.assertEqual(len(list(picture.iter(SVG + "circle"))), 25)
+    def test_json(self):
+        answer = json.loads(self.table(SOURCE, self.source_answer(), "--json"))
+        hours = answer.pop("hours")
+        self.assertEqual(answer, {
+            "profit_half_mills": 33546962, "profit_dollars": "16773.4810", "energy_half_mwh": 8398,
+            "read_by": "library", "found_by": str(FAKE),
+        })
+        self.assertEqual([hour["output"] for hour in hours], SOURCE_LIST)
+        self.assertEqual(hours[0], {
+            "hour": 1, "order": "free", "price_mills": 26950, "output": 120, "energy_half_mwh": 290,
+            "earnings_half_mills": -3404500, "earnings_dollars": "-1702.2500",
+        })
 
-    def test_plot_of_orders_and_a_strange_name(self):
-        data = self.made(
-            unit(initial="0", F_mills="1000"), "hour,price_mills,order\n1,0,off\n2,0,off\n"
-        )
-        name = self.file("a&<b>.case", data)
-        fake = {"GIQAPSUN_BEST_DAY": str(FAKE), "FAKE_BEST_DAY_TEXT": "profit 0\n1 0 0\n2 0 0\n"}
-        status, _, message = self.run_tool("best", name, "--plot", "d.svg", **fake)
-        self.assertEqual((status, message), (0, ""))
-        texts = [t.text for t in ElementTree.parse(self.folder / "d.svg").getroot().iter(SVG + "text")]
-        self.assertIn("Best day of a&<b>.case", texts)
-        self.assertIn("ordered off-line", texts)
-        self.assertNotIn("variable cost F", texts)
+    def test_csv(self):
+        rows = list(csv.DictReader(io.StringIO(self.table(SOURCE, self.source_answer(), "--csv"))))
+        self.assertEqual([int(row["output"]) for row in rows], SOURCE_LIST)
+        self.assertEqual(sum(int(row["earnings_half_mills"]) for row in rows), 33546962)
+        self.assertEqual(rows[7]["earnings_dollars"], "-1154.4250")
 
 
 class BestFaults(ToolTest):
     """Refusals, answers that are none, and a program that is not there."""
 
-    def faulty(self, text, message, data=CASE_7, words=(), **more):
+    def faulty(self, text, message, data=CASE_7, **more):
         """The fault that is named for an answer of the program."""
         with self.subTest(message=message):
             fake = {"GIQAPSUN_BEST_DAY": str(FAKE), "FAKE_BEST_DAY_TEXT": text, **more}
-            self.at_fault(message, "best", self.file("d.case", data), *words, **fake)
+            self.at_fault(message, "best", self.file("d.case", data), **fake)
 
     def test_refusals(self):
-        header = (ROOT / "include/giqapsun.h").read_text()
-        part = header[header.index("Refusals:") : header.index("Rules that a list may break")]
-        rows = re.findall(r"^ \*   (\d+) +(.*(?:\n \*       .*)*)", part, re.MULTILINE)
-        self.assertEqual([int(number) for number, _ in rows], list(range(1, 12)))
-        for number, text in rows:
-            text = re.sub(r"\s*\n \* +", " ", text)
-            self.faulty(f"refused {number}\n", f"d.case: refused {number}: {text}")
-        self.faulty("refused 1\n", "d.case: refused 1: file under 16 bytes, or pairs not as laid down", b"")
+        listed = texts("refusals.tsv")
+        self.assertEqual(list(listed), list(range(1, 12)))
+        for number, text in listed.items():
+            if number != 11:
+                self.faulty(f"refused {number}\n", f"d.case: refused {number}: {text}")
         self.faulty("refused 77\n", "d.case: refused 77: not in the refusal list")
+        text = "d.case: refused 8: an order byte above 2"
+        self.faulty("refused 8\n", text, FAKE_BEST_DAY_STATUS="1")
         self.faulty(
-            "refused 8\n", "d.case: refused 8: an order byte above 2", FAKE_BEST_DAY_STATUS="1"
+            "refused 8\n", f"{text}\norders: 3 at hour 2, 0 (free), 1 (on) or 2 (off) allowed", file_of(orders=[0, 3, 0])
         )
 
     def test_answers_that_are_none(self):
@@ -147,68 +126,77 @@ class BestFaults(ToolTest):
 
     def test_files(self):
         self.at_fault("e.case: No such file or directory", "best", "e.case", GIQAPSUN_BEST_DAY=str(FAKE))
-        self.faulty(
-            CASE_7_ANSWER, "none/d.svg: No such file or directory", words=("--plot", "none/d.svg")
-        )
-
-    def test_by_itself(self):
-        """The tool is a program, from any folder."""
-        unit_file, prices_file = CASES / "case7.toml", CASES / "case7.csv"
-        self.assertEqual(self.run_alone("make", unit_file, prices_file), (0, CASE_7, ""))
-        fault = "case: none.toml: No such file or directory\n"
-        self.assertEqual(self.run_alone("make", "none.toml", prices_file), (1, b"", fault))
-
-    def test_command_line(self):
-        for words in ([], ["make"], ["make", "u.toml"], ["best"], ["draw", "d.case"]):
-            status, printed, message = self.run_tool(*words)
-            self.assertEqual((status, printed), (2, b""))
-            self.assertIn("usage: case", message)
+        fake = {"GIQAPSUN_BEST_DAY": str(FAKE), "FAKE_BEST_DAY_TEXT": CASE_7_ANSWER}
+        words = ("best", self.file("d.case", CASE_7), "--plot", "none/d.svg")
+        self.at_fault("none/d.svg: No such file or directory", *words, **fake)
 
 
-class Program(ToolTest):
-    """The program itself on the stored cases and the known days."""
+class Found(ToolTest):
+    """The program itself and the library on the stored cases and the known days."""
 
-    def best(self, data):
-        """Status and output of `case best`."""
-        named = {"GIQAPSUN_BEST_DAY": program()}
-        status, printed, message = self.run_tool("best", self.file("d.case", data), **named)
+    def best(self, data, runs):
+        """Status and output of `case best` by a program, or by the library where none is named."""
+        status, printed, message = self.run_tool("best", self.file("d.case", data), GIQAPSUN_BEST_DAY=runs)
         return status, printed.decode() + message
 
+    def both(self, data):
+        """The answer of the program and that of the library, without the line that says who has found it."""
+        for runs, found in (program(), f"the program {program()}"), ("", "the proved library"):
+            status, text = self.best(data, runs)
+            line = f"read by the proved library; found by {found}\n"
+            self.assertEqual(text.endswith(line), status == 0)
+            yield status, text.removesuffix(line)
+
     def test_stored_cases(self):
-        self.assertEqual(self.best(CASE_7), (0, CASE_7_TABLE))
-        status, text = self.best((CASES / "source.case").read_bytes())
-        self.assertEqual((status, text.splitlines()[-1]), (0, "profit 33546962 half-mills"))
+        for answer in self.both(CASE_7):
+            self.assertEqual(answer, (0, CASE_7_TABLE))
+        for status, text in self.both(SOURCE):
+            self.assertEqual((status, text.splitlines()[-1]), (0, "profit 33546962 half-mills"))
 
     def test_known_days(self):
-        for line in (CASES / "known_days.txt").read_text().splitlines():
-            if line.startswith("#"):
-                continue
-            name, initial, elapsed, down, prices, orders, asked, answer = map(str.strip, line.split("|"))
+        for name, initial, elapsed, down, prices, orders, asked, answer in known_days():
             if asked != "best":
                 continue
             hours = enumerate(zip(prices.split(","), orders.split(",")), 1)
-            csv = "hour,price_mills,order\n" + "".join(f"{k},{p},{o}\n" for k, (p, o) in hours)
-            data = self.made(unit(initial=initial, elapsed=elapsed, minimum_down=down), csv)
-            status, text = self.best(data)
-            with self.subTest(case=name):
-                match answer.split():
-                    case ["list", outputs, "profit", profit]:
-                        found = re.findall(r"^ +\d+ +\w+ +[\d.]+ +(\d+)", text, re.MULTILINE)
-                        self.assertEqual((status, ",".join(found)), (0, outputs))
-                        self.assertTrue(text.endswith(f"profit {profit} half-mills\n"))
-                    case ["refused", number]:
-                        self.assertEqual(status, 1)
-                        self.assertTrue(text.startswith(f"case: d.case: refused {number}: "))
+            csv_text = "hour,price_mills,order\n" + "".join(f"{k},{p},{o}\n" for k, (p, o) in hours)
+            data = self.made(unit(initial=initial, elapsed=elapsed, mindown=down), csv_text)
+            for status, text in self.both(data):
+                with self.subTest(case=name):
+                    match answer.split():
+                        case ["list", outputs, "profit", profit]:
+                            found = re.findall(r"^ +\d+ +\w+ +[\d.]+ +(\d+)", text, re.MULTILINE)
+                            self.assertEqual((status, ",".join(found)), (0, outputs))
+                            self.assertTrue(text.endswith(f"profit {profit} half-mills\n"))
+                        case ["refused", number]:
+                            self.assertEqual(status, 2)
+                            self.assertTrue(text.startswith(f"case: d.case: refused {number}: "))
 
     def test_refusals(self):
-        many = "hour,price_mills\n" + "".join(f"{k},1\n" for k in range(1, 50))
-        for number, data in [
-            (1, b""),
-            (2, self.made(unit(), many)),
-            (3, self.made(unit(minimum="5"), "hour,price_mills\n1,5\n")),
-            (8, CASE_7[:-1] + b"\x03"),
-            (1, bytes(5000)),
+        for number, data, words in [
+            (1, b"", "bytes: 0, at least 16 needed"),
+            (2, file_of(prices=[1] * 49, orders=[0] * 49), "hours: 49, from 1 to 48 allowed"),
+            (3, file_of(minimum=5), "minimum: 5, from 1 to the capacity 4 allowed"),
+            (8, CASE_7[:-1] + b"\x03", "orders: 3 at hour 3, 0 (free), 1 (on) or 2 (off) allowed"),
+            (1, bytes(5000), "byte 0: offset of unit: 0, 16 needed"),
         ]:
-            status, text = self.best(data)
-            self.assertEqual(status, 1)
-            self.assertIn(f"refused {number}: ", text)
+            for status, text in self.both(data):
+                self.assertEqual(status, 2)
+                self.assertIn(f"refused {number}: ", text)
+                self.assertIn(f"case: {words}\n", text)
+
+    def test_no_schedule(self):
+        """Refusal 11 with what can be said of it."""
+        data = file_of(initial=0, prices=[10] * 4, orders=[2, 1, 0, 2])
+        text = """\
+case: d.case: refused 11: best list asked for, and no list keeps every rule
+case: orders: on-line at hour 2
+case: orders: off-line at hours 1, 4
+case: opening: initial 0 MW, elapsed 2 hours off-line
+case: times: minup 1, mindown 1; a start-up takes 2 hours, a shut-down 2 and ends inside the day
+case: the orders before hour 4 can be kept together; with that of hour 4 no list keeps every rule
+"""
+        for answer in self.both(data):
+            self.assertEqual(answer, (2, text))
+        status, printed, _ = self.run_tool("best", "d.case", "--json", GIQAPSUN_BEST_DAY="")
+        answer = json.loads(printed)
+        self.assertEqual((status, answer["refused"], len(answer["details"])), (2, 11, 5))

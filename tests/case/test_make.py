@@ -2,17 +2,10 @@
 
 import struct
 
-from tool import CASES, PRICES, ToolTest, unit
+from tool import CASES, PRICES, ToolTest, known_days, unit
 
 # the order bytes
 ORDERS = {"free": 0, "on": 1, "off": 2}
-
-
-def known_days():
-    """The rows of the known days, without question and answer."""
-    for line in (CASES / "known_days.txt").read_text().splitlines():
-        if not line.startswith("#"):
-            yield [cell.strip() for cell in line.split("|")][:6]
 
 
 class Made(ToolTest):
@@ -33,10 +26,10 @@ class Made(ToolTest):
     def test_known_days(self):
         rows = list(known_days())
         self.assertEqual(len(rows), 12)
-        for name, initial, elapsed, down, prices, orders in rows:
+        for name, initial, elapsed, down, prices, orders, _, _ in rows:
             hours = list(zip(prices.split(","), orders.split(",")))
             csv = "hour,price_mills,order\n" + "".join(f"{k},{p},{o}\n" for k, (p, o) in enumerate(hours, 1))
-            toml = unit(initial=initial, elapsed=elapsed, minimum_down=down)
+            toml = unit(initial=initial, elapsed=elapsed, mindown=down)
             start = struct.pack(
                 "<8H6H4I2H2H2H", 16, 32, 48, 4, 52, 4, 56, 3 * len(hours), 4, 2, 1, 1, 1, int(down), 10, 1, 3,
                 2, int(initial), int(elapsed), 1, 2, 2, 1,
@@ -48,11 +41,11 @@ class Made(ToolTest):
     def test_dollars_are_exact(self):
         for dollars, mills in [
             ("38", 38000), ("38.0", 38000), ("0.001", 1), ("0.29", 290), ("1.005", 1005), ("4.35", 4350),
-            ("1_000.5", 1000500), ("+2.5", 2500), ("4294967.295", 2**32 - 1),
+            ("1_000", 1000000), ("+2.5", 2500), ("999.999", 999999),
         ]:
             with self.subTest(dollars=dollars):
-                made = self.made(unit(F_mills=None, F_dollars=dollars), PRICES)
-                self.assertEqual(made, self.made(unit(F_mills=str(mills)), PRICES))
+                made = self.made(unit(variable_mills=None, variable_dollars=dollars), PRICES)
+                self.assertEqual(made, self.made(unit(variable_mills=str(mills)), PRICES))
         for dollars, mills in [("0.1", 100), ("65.535", 65535), ("26.95", 26950), ("0", 0)]:
             with self.subTest(dollars=dollars):
                 made = self.made(unit(), f"hour,price_dollars\n1,{dollars}\n")
@@ -68,17 +61,6 @@ class Made(ToolTest):
         ):
             with self.subTest(csv=csv):
                 self.assertEqual(self.made(unit(), csv), expected)
-
-    def test_outside_the_limits(self):
-        """What the library refuses can be made: the limits are not tested here."""
-        for toml in (
-            unit(capacity="65535"), unit(minimum="0"), unit(ramp_up="0"), unit(F_mills="4294967295"),
-            unit(start_up="[]"), unit(shut_down="[2, 2, 9, 9, 9, 9, 9, 9, 9]"), unit(elapsed="0"),
-        ):
-            self.made(toml, PRICES)
-        self.assertEqual(len(self.made(unit(), "hour,price_mills\n")), 56)
-        hours = "".join(f"{k},1\n" for k in range(1, 50))
-        self.assertEqual(len(self.made(unit(), "hour,price_mills\n" + hours)), 56 + 3 * 49)
 
 
 class UnitFaults(ToolTest):
@@ -101,26 +83,37 @@ class UnitFaults(ToolTest):
         )
 
     def test_deep_or_long(self):
-        for toml in ("start_up = " + "[" * 50_000, unit(capacity="9" * 5000)):
+        for toml in ("rise = " + "[" * 50_000, unit(capacity="9" * 5000)):
             self.file("u.toml", toml)
             status, printed, message = self.run_tool("make", "u.toml", self.file("p.csv", PRICES))
-            self.assertEqual((status, printed), (1, b""))
+            self.assertEqual((status, printed), (2, b""))
             self.assertRegex(message, r"\Acase: u\.toml: not TOML: .*\n\Z")
 
     def test_keys(self):
-        self.faulty(unit(rampup="1"), "u.toml:15: rampup: no such key")
+        self.faulty(unit(ramp="1"), "u.toml:15: ramp: no such key")
         self.faulty("\n[unit]\n" + unit(), "u.toml:2: unit: no such key")
-        self.faulty(unit(ramp_up=None), "u.toml: ramp_up: the key is missing")
-        self.faulty(unit(shut_down=None), "u.toml: shut_down: the key is missing")
-        self.faulty(unit(F_mills=None), "u.toml: F: the key F_dollars or F_mills is missing")
-        self.faulty(unit(F_mills=None, F="10"), "u.toml:14: F: no such key")
-        self.faulty(unit(B_dollars="1"), "u.toml:9: B_mills: B_dollars is given too")
+        self.faulty(unit(rampup=None), "u.toml: rampup: the key is missing")
+        self.faulty(unit(fall=None), "u.toml: fall: the key is missing")
+        self.faulty(
+            unit(variable_mills=None), "u.toml: variable: the key variable_dollars or variable_mills is missing"
+        )
+        self.faulty(
+            unit(startcost_dollars="1"), "u.toml:9: startcost_mills: startcost_dollars is given too"
+        )
+
+    def test_other_words(self):
+        """A key by another word is told the record's."""
+        for key, right in [
+            ("ramp_up", "rampup"), ("ramp_down", "rampdown"), ("minimum_up", "minup"), ("minimum_down", "mindown"),
+            ("start_up", "rise"), ("shut_down", "fall"), ("F_dollars", "variable_dollars"),
+            ("A_mills", "fixed_mills"), ("B_dollars", "startcost_dollars"), ("C_mills", "stopcost_mills"),
+            ("F", "variable_dollars or variable_mills"), ("stopcost", "stopcost_dollars or stopcost_mills"),
+        ]:
+            self.faulty(unit(**{key: "1"}), f"u.toml:15: {key}: no such key; it is {right}")
 
     def test_numbers(self):
         for value, what in [
-            ("65536", "65536 is outside 0 to 65535"),
-            ("-1", "-1 is outside 0 to 65535"),
-            ("0x1" + "0" * 5000, "a number of more than 15 digits is outside 0 to 65535"),
+            ("0x1" + "0" * 5000, "a number of more than 15 digits is too large"),
             ("4.0", "4.0 is not a whole number"),
             ("nan", "nan is not a whole number"),
             ("true", "true is not a whole number"),
@@ -130,9 +123,7 @@ class UnitFaults(ToolTest):
             ("2003-05-29", "a date or time is not a whole number"),
         ]:
             self.faulty(unit(capacity=value), f"u.toml:1: capacity: {what}")
-        self.faulty(unit(elapsed="70000"), "u.toml:12: elapsed: 70000 is outside 0 to 65535")
-        self.faulty(unit(A_mills="4294967296"), "u.toml:8: A_mills: 4294967296 is outside 0 to 4294967295")
-        self.faulty(unit(A_mills="1.5"), "u.toml:8: A_mills: 1.5 is not a whole number")
+        self.faulty(unit(fixed_mills="1.5"), "u.toml:8: fixed_mills: 1.5 is not a whole number")
 
     def test_dollars(self):
         decimals = "is not an amount in dollars with up to three decimals"
@@ -143,21 +134,99 @@ class UnitFaults(ToolTest):
             ("-inf", f"-inf {decimals}"),
             ("false", "false is not an amount in dollars"),
             ('"38"', "'38' is not an amount in dollars"),
-            ("-0.001", "-0.001 is outside 0 to 4,294,967.295"),
-            ("4294967.296", "4294967.296 is outside 0 to 4,294,967.295"),
             ("1" + "0" * 15, f"a number of more than 15 digits {decimals}"),
         ]:
-            self.faulty(unit(F_mills=None, F_dollars=value), f"u.toml:14: F_dollars: {what}")
+            self.faulty(unit(variable_mills=None, variable_dollars=value), f"u.toml:14: variable_dollars: {what}")
 
     def test_trajectories(self):
-        self.faulty(unit(start_up="2"), "u.toml:13: start_up: 2 is not a list of outputs")
-        self.faulty(unit(start_up="[1, 65536]"), "u.toml:13: start_up: 65536 is outside 0 to 65535")
-        self.faulty(unit(shut_down="[2,\n  1.5]"), "u.toml:14: shut_down: 1.5 is not a whole number")
-        long = "[" + "1," * 32_000 + "]"
-        self.made(unit(start_up=long), PRICES)
-        self.faulty(
-            unit(start_up=long, shut_down=long),
-            "u.toml:14: shut_down: 32000 outputs, more than the file has room for",
+        self.faulty(unit(rise="2"), "u.toml:13: rise: 2 is not a list of outputs")
+        self.faulty(unit(fall="[2,\n  1.5]"), "u.toml:14: fall: 1.5 is not a whole number")
+
+
+class Refused(ToolTest):
+    """Cases that would be refused are not made: field, value and limit are named."""
+
+    def refused(self, number, text, toml, place, csv=PRICES):
+        """The refusal, with the place of each field at fault."""
+        with self.subTest(place=place):
+            self.file("u.toml", toml)
+            self.at_fault(
+                f"u.toml, p.csv: refused {number}: {text}\n{place}",
+                "make", "u.toml", self.file("p.csv", csv), "-o", "d.case",
+            )
+            self.assertFalse((self.folder / "d.case").exists())
+
+    def test_counts(self):
+        text = "a section length, or a count in a record, not as laid down"
+        for hours in (49, 30_000):
+            csv = "hour,price_mills\n" + "".join(f"{k},1\n" for k in range(1, hours + 1))
+            self.refused(2, text, unit(), f"p.csv: hours: {hours:,}, from 1 to 48 allowed", csv)
+        self.refused(2, text, unit(), "p.csv: hours: 0, from 1 to 48 allowed", "hour,price_mills\n")
+        self.refused(2, text, unit(rise="[]"), "u.toml:13: rise: 0, from 1 to 8 allowed")
+        long = "[" + "1, " * 40_000 + "]"
+        self.refused(2, text, unit(fall=long), "u.toml:14: fall: 40,000, from 1 to 8 allowed")
+
+    def test_outputs(self):
+        text = "minimum output 0 or above capacity, or capacity above 400"
+        self.refused(3, text, unit(minimum="5"), "u.toml:2: minimum: 5, from 1 to the capacity 4 allowed")
+        self.refused(3, text, unit(minimum="0"), "u.toml:2: minimum: 0, from 1 to the capacity 4 allowed")
+        self.refused(3, text, unit(capacity="401"), "u.toml:1: capacity: 401, from 1 to 400 allowed")
+        self.refused(3, text, unit(capacity="70000"), "u.toml:1: capacity: 70,000, from 1 to 400 allowed")
+        self.refused(
+            3, text, unit(capacity="-1"),
+            "u.toml:1: capacity: -1, from 1 to 400 allowed\nu.toml:2: minimum: 2, from 1 to the capacity -1 allowed",
+        )
+
+    def test_ramps_and_times(self):
+        text = "RU or RD outside 1 to 400, or a minimum time outside 1 to 8"
+        self.refused(4, text, unit(rampup="0"), "u.toml:3: rampup: 0, from 1 to 400 allowed")
+        self.refused(4, text, unit(rampdown="401"), "u.toml:4: rampdown: 401, from 1 to 400 allowed")
+        self.refused(
+            4, text, unit(minup="9", mindown="-9"),
+            "u.toml:5: minup: 9, from 1 to 8 allowed\nu.toml:6: mindown: -9, from 1 to 8 allowed",
+        )
+
+    def test_costs(self):
+        text = "F above 1,000,000, or A, B or C above 100,000,000"
+        most = "from 0 to 1,000,000 mills ($1,000.000) allowed"
+        self.refused(
+            5, text, unit(variable_mills="1000001"), f"u.toml:7: variable: 1,000,001 mills ($1,000.001), {most}"
+        )
+        self.refused(
+            5, text, unit(variable_mills=None, variable_dollars="2000"),
+            f"u.toml:14: variable: 2,000,000 mills ($2,000.000), {most}",
+        )
+        self.refused(
+            5, text, unit(stopcost_mills="99999999999"),
+            "u.toml:10: stopcost: 99,999,999,999 mills ($99,999,999.999), "
+            "from 0 to 100,000,000 mills ($100,000.000) allowed",
+        )
+        self.refused(5, text, unit(variable_mills="-1"), f"u.toml:7: variable: -1 mills ($-0.001), {most}")
+
+    def test_trajectories(self):
+        text = (
+            "PU not strictly rising from 1 or more to the minimum output, "
+            "or PD not strictly falling from the minimum output to 1 or more"
+        )
+        for changes, place in [
+            ({"rise": "[2, 2]"}, "u.toml:13: rise: 2, 2, strictly rising allowed"),
+            ({"rise": "[0, 2]"}, "u.toml:13: rise: 0, 2, 1 or more allowed"),
+            ({"rise": "[1]"}, "u.toml:13: rise: 1, rising to the minimum 2 allowed"),
+            ({"fall": "[1, 2]"}, "u.toml:14: fall: 1, 2, strictly falling allowed\n"
+                                 "u.toml:14: fall: 1, 2, falling from the minimum 2 allowed"),
+            ({"fall": "[2, 0]"}, "u.toml:14: fall: 2, 0, 1 or more allowed"),
+        ]:
+            self.refused(6, text, unit(**changes), place)
+
+    def test_opening(self):
+        text = "h outside 1 to 10,000; p(0) neither 0 nor from minimum to capacity; p(0) above 0 with h below UD"
+        self.refused(7, text, unit(elapsed="10001"), "u.toml:12: elapsed: 10,001, from 1 to 10,000 allowed")
+        self.refused(7, text, unit(elapsed="0"), "u.toml:12: elapsed: 0, from 1 to 10,000 allowed")
+        self.refused(7, text, unit(initial="1"), "u.toml:11: initial: 1, 0 or from 2 to 4 allowed")
+        self.refused(7, text, unit(initial="-2"), "u.toml:11: initial: -2, 0 or from 2 to 4 allowed")
+        self.refused(
+            7, text, unit(elapsed="1"),
+            "u.toml:12: elapsed: 1, 2 or more (the outputs of rise) allowed with initial above 0",
         )
 
 
@@ -179,8 +248,9 @@ class PricesFaults(ToolTest):
         self.faulty('hour,price_mills\n1,"5"5\n', "p.csv:2: not CSV: ',' expected after '\"'")
 
     def test_columns(self):
-        self.faulty("hour,price\n1,5\n", "p.csv:1: 'price': no such column")
-        self.faulty("1,5\n2,5\n", "p.csv:1: '1': no such column")
+        there = "no such column; there are hour, price_dollars, price_mills, order"
+        self.faulty("hour,price\n1,5\n", f"p.csv:1: 'price': {there}")
+        self.faulty("1,5\n2,5\n", f"p.csv:1: '1': {there}")
         self.faulty("hour,price_mills,hour\n", "p.csv:1: hour: the column is given twice")
         self.faulty("price_mills\n5\n", "p.csv:1: hour: the column is missing")
         self.faulty(
@@ -197,22 +267,18 @@ class PricesFaults(ToolTest):
         self.faulty("hour,price_mills\n1,5\n3,5\n", "p.csv:3: hour: '3' where hour 2 was expected")
         self.faulty("hour,price_mills\n1,5\n1,5\n", "p.csv:3: hour: '1' where hour 2 was expected")
         self.faulty("hour,price_mills\n01:00,5\n", "p.csv:2: hour: '01:00' where hour 1 was expected")
-        rows = "".join(f"{k},1\n" for k in range(1, 21_847))
-        self.faulty(
-            "hour,price_mills\n" + rows, "p.csv:21847: hour: more hours than the file has room for"
-        )
 
     def test_prices(self):
         mills = "is not a price in whole mills"
         for cell, what in [
-            ("65536", "65536 is outside 0 to 65535"), ("-1", "-1 is outside 0 to 65535"),
+            ("65536", "65536, from 0 to 65,535 allowed"), ("-1", "-1, from 0 to 65,535 allowed"),
             ("5.0", f"'5.0' {mills}"), ("", f"'' {mills}"), ("x" * 50, f"'{'x' * 40}...' {mills}"),
             ("\u0665", f"'\u0665' {mills}"),
         ]:
             self.faulty(f"hour,price_mills\n1,5\n2,{cell}\n", f"p.csv:3: price_mills: {what}")
         dollars = "is not a price in dollars with up to three decimals"
         for cell, what in [
-            ("65.536", "65.536 is outside 0 to 65.535"), ("-0.5", "-0.5 is outside 0 to 65.535"),
+            ("70", "70, from 0 to 65.535 allowed"), ("-0.5", "-0.5, from 0 to 65.535 allowed"),
             ("26.9500", f"'26.9500' {dollars}"), ("$5", f"'$5' {dollars}"), ("1e1", f"'1e1' {dollars}"),
             ("5.", f"'5.' {dollars}"),
         ]:

@@ -1,111 +1,125 @@
-"""case show: every field of a case, and files that do not divide into fields."""
+"""case show: every field of a case, in words, as JSON and CSV, and as the files that make it again."""
 
-import re
-import struct
+import csv
+import io
+import json
+import random
+from dataclasses import asdict
 
-from tool import CASES, PRICES, ToolTest, unit
+from tool import CASE_7, SOURCE, ToolTest, file_of, giqapsun, small
 
-CASE_7 = """\
-capacity:                                  4 MW
-minimum output:                            2 MW
-ramp-up limit RU:                          1 MW per hour
-ramp-down limit RD:                        1 MW per hour
-minimum up time:                           1 h
-minimum down time:                         1 h
-variable cost F:                          10 mills per MWh = $0.010 per MWh
-fixed cost A:                              1 mills per on-line hour = $0.001 per on-line hour
-start-up cost B:                           3 mills per start = $0.003 per start
-shut-down cost C:                          2 mills per stop = $0.002 per stop
-output p(0) before hour 1:                 3 MW
-hours h on-line before hour 1:             2 h
-start-up trajectory PU, UD 2: 1, 2 MW
-shut-down trajectory PD, DD 2: 2, 1 MW
-hours T: 3
+CASE_7_TEXT = """\
+capacity            4 MW
+minimum             2 MW            minimum output
+rampup              1 MW per hour   ramp-up limit RU
+rampdown            1 MW per hour   ramp-down limit RD
+minup               1 hours         minimum up time
+mindown             1 hours         minimum down time
+variable           10 mills         variable cost F, per MWh: $0.010
+fixed               1 mills         fixed cost A, per on-line hour: $0.001
+startcost           3 mills         start-up cost B, per start: $0.003
+stopcost            2 mills         shut-down cost C, per stop: $0.002
+initial             3 MW            output p(0) before hour 1
+elapsed             2 hours         h, hours on-line before hour 1
+rise             1, 2 MW            start-up trajectory PU, UD 2
+fall             2, 1 MW            shut-down trajectory PD, DD 2
+hours               3 T
 
 hour  price (mills/MWh)  price ($/MWh)  order
    1                  5          0.005  free
    2                  5          0.005  free
    3                  5          0.005  free
+
+read by the proved library
 """
 
 
 class Shown(ToolTest):
-    """Cases in words."""
+    """Cases in words and for programs."""
 
-    def shown(self, data):
+    def shown(self, data, *words):
         """The text of a case."""
-        status, printed, message = self.run_tool("show", self.file("d.case", data))
-        self.assertEqual((status, message), (0, ""))
-        return printed.decode()
+        return self.answered("show", self.file("d.case", data), *words).decode()
 
     def test_case_7(self):
-        self.assertEqual(self.shown((CASES / "case7.case").read_bytes()), CASE_7)
+        self.assertEqual(self.shown(CASE_7), CASE_7_TEXT)
 
     def test_orders_and_opening(self):
-        text = self.shown(self.made(unit(initial="0"), "hour,price_mills,order\n1,5,on\n2,7,off\n"))
-        self.assertIn("hours h off-line before hour 1: ", text)
+        text = self.shown(file_of(initial=0, prices=[5, 7], orders=[1, 2]))
+        self.assertIn("h, hours off-line before hour 1\n", text)
         self.assertIn("   1                  5          0.005  on\n", text)
         self.assertIn("   2                  7          0.007  off\n", text)
 
-    def test_outside_the_limits(self):
-        data = self.made(unit(start_up="[]"), PRICES)
-        text = self.shown(data[:-1] + b"\x03")
-        self.assertIn("start-up trajectory PU, UD 0: none\n", text)
-        self.assertIn("   3                  5          0.005  3, no order\n", text)
+    def test_json(self):
+        """The record itself, under the record's names."""
+        for data in (CASE_7, SOURCE):
+            answer = json.loads(self.shown(data, "--json"))
+            self.assertEqual(list(answer), ["case", "read_by"])
+            self.assertEqual(answer["read_by"], "library")
+            self.assertEqual(list(answer["case"]), list(asdict(giqapsun.Case())))
+            self.assertEqual(giqapsun.Case(**answer["case"]), giqapsun.read(data))
 
-    def test_made_again_from_what_is_shown(self):
-        """The fields shown make the same case."""
-        data = (CASES / "source.case").read_bytes()
-        text = self.shown(data)
-        number = {name: value for name, value in re.findall(r"^(.*): +(\d+) ", text, re.MULTILINE)}
-        lists = re.findall(r"trajectory P[UD], [UD]D \d+: (.*) MW$", text, re.MULTILINE)
-        dollars = re.findall(r"^.* cost ([FABC]):.* = \$([\d,.]+) ", text, re.MULTILINE)
-        toml = unit(
-            capacity=number["capacity"], minimum=number["minimum output"],
-            ramp_up=number["ramp-up limit RU"], ramp_down=number["ramp-down limit RD"],
-            minimum_up=number["minimum up time"], minimum_down=number["minimum down time"],
-            initial=number["output p(0) before hour 1"], elapsed=number["hours h on-line before hour 1"],
-            start_up=f"[{lists[0]}]", shut_down=f"[{lists[1]}]",
-            **{f"{cost}_dollars": amount.replace(",", "") for cost, amount in dollars},
-            **{f"{cost}_mills": None for cost, _ in dollars},
-        )
-        hours = re.findall(r"^ +(\d+) +(\d+) +([\d.]+) +(\w+)$", text, re.MULTILINE)
-        self.assertEqual(len(hours), 24)
-        mills = "hour,price_mills,order\n" + "".join(f"{k},{m},{o}\n" for k, m, _, o in hours)
-        self.assertEqual(self.made(toml, mills), data)
-        prices = "hour,price_dollars,order\n" + "".join(f"{k},{d},{o}\n" for k, _, d, o in hours)
-        self.assertEqual(self.made(toml, prices), data)
+    def test_csv(self):
+        rows = list(csv.DictReader(io.StringIO(self.shown(file_of(orders=[0, 1, 2]), "--csv"))))
+        self.assertEqual(rows[0], {"field": "capacity", "entry": "", "value": "4"})
+        self.assertEqual(rows[-1], {"field": "orders", "entry": "3", "value": "2"})
+        case = giqapsun.Case()
+        for row in rows:
+            if row["entry"]:
+                getattr(case, row["field"]).append(int(row["value"]))
+            else:
+                setattr(case, row["field"], int(row["value"]))
+        self.assertEqual(case, small(orders=[0, 1, 2]))
+
+    def test_standard_input(self):
+        status, printed, message = self.run_tool("show", "-", given=CASE_7)
+        self.assertEqual((status, printed.decode(), message), (0, CASE_7_TEXT, ""))
+        message = "case: standard input: refused 1: file under 16 bytes, or pairs not as laid down\n"
+        message += "case: bytes: 3, at least 16 needed\n"
+        self.assertEqual(self.run_tool("show", "-", given=b"abc"), (2, b"", message))
 
 
-class ShowFaults(ToolTest):
-    """Files that cannot be shown."""
+class MadeAgain(ToolTest):
+    """The two files that a case gives back."""
 
-    def faulty(self, data, message):
-        """The fault that showing names."""
-        with self.subTest(message=message):
-            self.at_fault(message, "show", self.file("d.case", data))
+    def again(self, data):
+        """The case made of the files that a case gives back."""
+        name = self.file("d.case", data)
+        self.assertEqual(self.answered("show", name, "--toml", "u.toml", "--prices", "p.csv"), b"")
+        return self.answered("make", "u.toml", "p.csv")
 
-    def test_file(self):
-        self.at_fault("d.case: No such file or directory", "show", "d.case")
+    def test_stored_cases(self):
+        for data in (CASE_7, SOURCE):
+            self.assertEqual(self.again(data), data)
+        toml = (self.folder / "u.toml").read_text()
+        self.assertIn("rampup = 60                               # ramp-up limit RU, MW per hour\n", toml)
+        self.assertIn("startcost_dollars = 850.000               # start-up cost B, per start\n", toml)
+        self.assertTrue((self.folder / "p.csv").read_text().startswith("hour,price_dollars,order\n1,26.950,free\n"))
 
-    def test_pairs(self):
-        data = (CASES / "case7.case").read_bytes()
-        pairs = list(struct.unpack_from("<8H", data))
+    def test_random_cases(self):
+        """Any case within the limits."""
+        number = random.Random(1).randint
+        for _ in range(30):
+            capacity = number(20, 400)
+            minimum = number(10, capacity)
+            hours = number(1, 48)
+            case = giqapsun.Case(
+                capacity=capacity, minimum=minimum, rampup=number(1, 400), rampdown=number(1, 400),
+                minup=number(1, 8), mindown=number(1, 8), variable=number(0, 10**6), fixed=number(0, 10**8),
+                startcost=number(0, 10**8), stopcost=number(0, 10**8), initial=number(minimum, capacity),
+                elapsed=number(8, 10_000), rise=[*range(1, number(1, 8)), minimum],
+                fall=[minimum, *range(number(1, 8) - 1, 0, -1)], prices=[number(0, 65_535) for _ in range(hours)],
+                orders=[number(0, 2) for _ in range(hours)],
+            )
+            data = giqapsun.write(case)
+            self.assertEqual(self.again(data), data)
 
-        def with_pair(place, number):
-            return struct.pack("<8H", *pairs[:place], number, *pairs[place + 1 :]) + data[16:]
+    def test_one_of_the_two(self):
+        self.answered("show", self.file("d.case", CASE_7), "--prices", "p.csv")
+        self.assertEqual((self.folder / "p.csv").read_text().splitlines()[3], "3,0.005,free")
+        self.assertFalse((self.folder / "u.toml").exists())
 
-        self.faulty(b"", "d.case:byte 0: pairs: 0 bytes, and the pairs alone take 16")
-        self.faulty(data[:15], "d.case:byte 15: pairs: 15 bytes, and the pairs alone take 16")
-        self.faulty(with_pair(0, 20), "d.case:byte 0: offset of unit: 20 where 16 was expected")
-        self.faulty(with_pair(1, 64), "d.case:byte 0: length of unit: 64, and an entry takes 32 bytes")
-        self.faulty(with_pair(1, 0), "d.case:byte 0: length of unit: 0, and an entry takes 32 bytes")
-        self.faulty(
-            with_pair(2, 50), "d.case:byte 4: offset of start-up trajectory: 50 where 48 was expected"
-        )
-        self.faulty(
-            with_pair(5, 3), "d.case:byte 8: length of shut-down trajectory: 3, and an entry takes 2 bytes"
-        )
-        self.faulty(with_pair(7, 8), "d.case:byte 12: length of hours: 8, and an entry takes 3 bytes")
-        self.faulty(data[:-1], "d.case:byte 12: length of hours: they end at 65, the file at 64")
-        self.faulty(data + b"\0", "d.case:byte 12: length of hours: they end at 65, the file at 66")
+    def test_faults(self):
+        self.file("d.case", CASE_7)
+        self.at_fault("none/u.toml: No such file or directory", "show", "d.case", "--toml", "none/u.toml")
+        self.at_fault("output: '-' is no file to write; name one", "show", "d.case", "--prices", "-")

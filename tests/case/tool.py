@@ -19,11 +19,21 @@ TOOL = ROOT / "tools/case/case"
 sys.path.append(str(TOOL.parent))
 MAIN = runpy.run_path(str(TOOL))["main"]
 
+from layout import bytes_of  # noqa: E402
+from module import giqapsun  # noqa: E402
+
+CASE_7 = (CASES / "case7.case").read_bytes()
+SOURCE = (CASES / "source.case").read_bytes()
+SOURCE_LIST = [
+    120, 112, 70, 30, 0, 0, 0, 37, 75, 112, 172, 232, 292, 294, 294, 294, 294, 294, 294, 294, 294, 244, 194,
+    144,
+]
+
 # case 7 of the known days, key by key
 UNIT = {
-    "capacity": "4", "minimum": "2", "ramp_up": "1", "ramp_down": "1", "minimum_up": "1",
-    "minimum_down": "1", "F_mills": "10", "A_mills": "1", "B_mills": "3", "C_mills": "2",
-    "initial": "3", "elapsed": "2", "start_up": "[1, 2]", "shut_down": "[2, 1]",
+    "capacity": "4", "minimum": "2", "rampup": "1", "rampdown": "1", "minup": "1", "mindown": "1",
+    "variable_mills": "10", "fixed_mills": "1", "startcost_mills": "3", "stopcost_mills": "2",
+    "initial": "3", "elapsed": "2", "rise": "[1, 2]", "fall": "[2, 1]",
 }
 PRICES = "hour,price_mills\n1,5\n2,5\n3,5\n"
 
@@ -32,6 +42,39 @@ def unit(**changes):
     """The text of the unit with some keys changed, added, or left out where the value is None."""
     keys = {**UNIT, **changes}
     return "".join(f"{key} = {value}\n" for key, value in keys.items() if value is not None)
+
+
+def small(**changes):
+    """The same unit as a record, with three free hours."""
+    fields = {
+        "capacity": 4, "minimum": 2, "rampup": 1, "rampdown": 1, "minup": 1, "mindown": 1, "variable": 10,
+        "fixed": 1, "startcost": 3, "stopcost": 2, "initial": 3, "elapsed": 2, "rise": [1, 2], "fall": [2, 1],
+        "prices": [5, 5, 5], "orders": [0, 0, 0],
+    }
+    return giqapsun.Case(**{**fields, **changes})
+
+
+def file_of(**changes):
+    """The bytes of that record, within the limits or not."""
+    return bytes_of(small(**changes))
+
+
+def known_days():
+    """The rows of the known days, cell by cell."""
+    for line in (CASES / "known_days.txt").read_text().splitlines():
+        if not line.startswith("#"):
+            yield [cell.strip() for cell in line.split("|")]
+
+
+def texts(name):
+    """The words for each number, from a table of texts/."""
+    rows = (line.split("\t") for line in (ROOT / "texts" / name).read_text().splitlines())
+    return {int(number): text for number, text in rows}
+
+
+def list_text(outputs):
+    """The file of a list."""
+    return "hour,output\n" + "".join(f"{k},{output}\n" for k, output in enumerate(outputs, 1))
 
 
 class ToolTest(unittest.TestCase):
@@ -48,12 +91,14 @@ class ToolTest(unittest.TestCase):
         path.write_bytes(content if isinstance(content, bytes) else content.encode())
         return name
 
-    def run_tool(self, *words, **environment):
+    def run_tool(self, *words, given=b"", **environment):
         """Status, standard output and standard error of the tool, run in the folder."""
         printed, message = io.TextIOWrapper(io.BytesIO(), "utf-8"), io.StringIO()
+        standard = io.TextIOWrapper(io.BytesIO(given), "utf-8")
         with (
             chdir(self.folder), mock.patch.object(sys, "argv", ["case", *words]),
-            mock.patch.dict(os.environ, environment), redirect_stdout(printed), redirect_stderr(message),
+            mock.patch.object(sys, "stdin", standard), mock.patch.dict(os.environ, environment),
+            redirect_stdout(printed), redirect_stderr(message),
         ):
             try:
                 status = MAIN()
@@ -62,19 +107,22 @@ class ToolTest(unittest.TestCase):
         printed.flush()
         return status, printed.buffer.getvalue(), message.getvalue()
 
-    def run_alone(self, *words):
+    def run_alone(self, *words, tool=TOOL, **more):
         """The same of the tool as a program of its own."""
-        done = subprocess.run([TOOL, *words], cwd=self.folder, capture_output=True, check=False)
+        done = subprocess.run([tool, *words], cwd=self.folder, capture_output=True, check=False, **more)
         return done.returncode, done.stdout, done.stderr.decode()
+
+    def answered(self, *words, **environment):
+        """What the tool prints, with status 0 and no message."""
+        status, printed, message = self.run_tool(*words, **environment)
+        self.assertEqual((status, message), (0, ""))
+        return printed
 
     def made(self, toml, csv):
         """The case made of a unit and prices."""
-        status, data, message = self.run_tool(
-            "make", self.file("unit.toml", toml), self.file("day.csv", csv)
-        )
-        self.assertEqual((status, message), (0, ""))
-        return data
+        return self.answered("make", self.file("unit.toml", toml), self.file("day.csv", csv))
 
     def at_fault(self, message, *words, **environment):
-        """The tool names the fault, prints nothing else, and ends with status 1."""
-        self.assertEqual(self.run_tool(*words, **environment), (1, b"", f"case: {message}\n"))
+        """The tool names the fault, prints nothing else, and ends with status 2."""
+        lines = "".join(f"case: {line}\n" for line in message.splitlines())
+        self.assertEqual(self.run_tool(*words, **environment), (2, b"", lines))

@@ -1,53 +1,97 @@
-"""The best day of a case, as the program best_day finds it, and its table."""
+"""The best day of a case, as the library or the program best_day finds it, and its table."""
 
 import os
 import re
 import subprocess
-from dataclasses import dataclass
+from dataclasses import dataclass, replace
 from pathlib import Path
 
-from faults import Fault
+from faults import Fault, Refused
 from layout import case_of
-from money import dollars_of_half_mills, dollars_of_mills, megawatt_hours
-from show import order_name
+from module import giqapsun
+from money import dollars_of_half_mills, dollars_of_mills, machine, megawatt_hours
+from reading import BY, Reading, built, explained, read_case
+from tables import csv_of, json_of
+from words import ORDERS, counted, listed
 
-# the conditions of the refusal list
-REFUSALS = {
-    1: "file under 16 bytes, or pairs not as laid down",
-    2: "a section length, or a count in a record, not as laid down",
-    3: "minimum output 0 or above capacity, or capacity above 400",
-    4: "RU or RD outside 1 to 400, or a minimum time outside 1 to 8",
-    5: "F above 1,000,000, or A, B or C above 100,000,000",
-    6: "PU not strictly rising from 1 or more to the minimum output, "
-       "or PD not strictly falling from the minimum output to 1 or more",
-    7: "h outside 1 to 10,000; p(0) neither 0 nor from minimum to capacity; p(0) above 0 with h below UD",
-    8: "an order byte above 2",
-    9: "checked list not of T outputs",
-    10: "lent memory short: 8,192 signed 64-bit numbers to work in, T outputs, or the written file's bytes",
-    11: "best list asked for, and no list keeps every rule",
-}
+# the columns of a day as CSV, and the names of an hour as JSON
+COLUMNS = (
+    "hour", "order", "price_mills", "output", "energy_half_mwh", "earnings_half_mills", "earnings_dollars",
+)
 
 
 @dataclass
 class Day:
-    """The best day: outputs in MW, energies in half-megawatt-hours, earnings and profit in half-mills."""
+    """The best day: outputs in MW, energies in half-megawatt-hours, earnings and profit in half-mills; and who has
+    found it, `library` or the program's file."""
 
-    case: object
+    reading: Reading
     outputs: list
     energies: list
     earnings: list
     profit: int
+    found_by: str
+
+    def hours(self):
+        """Each hour with its order, price, output, energy and earnings."""
+        case = self.reading.case
+        words = (ORDERS[order] for order in case.orders)
+        return zip(range(1, len(self.outputs) + 1), words, case.prices, self.outputs, self.energies, self.earnings)
 
 
 def program():
-    """The program: GIQAPSUN_BEST_DAY, or the one that the repository builds."""
+    """The program: GIQAPSUN_BEST_DAY, or the one that the repository builds; None where the library serves."""
     named = os.environ.get("GIQAPSUN_BEST_DAY")
-    return Path(named) if named else Path(__file__).resolve().parents[2] / "target/bin/best_day"
+    if named:
+        return Path(named)
+    return None if built() else Path(__file__).resolve().parents[2] / "target/bin/best_day"
 
 
 def best_day(file, data):
-    """Runs the program on the bytes of a file."""
+    """The best day of the bytes of a file."""
     runs = program()
+    if runs is not None:
+        return _answered(runs, file, data)
+    reading = read_case(file, data)
+    try:
+        plan = giqapsun.best(reading.case)
+    except giqapsun.Refusal as refused:
+        raise Refused(file, refused.number, contradiction(reading.case)) from None
+    return _day(reading, plan.outputs, plan.profit, "library")
+
+
+def contradiction(case):
+    """What can be said where no list keeps every rule. Without orders a unit can stay as it opens, so it is some of
+    the orders that cannot be kept."""
+    state = "on-line" if case.initial else "off-line"
+    for word, order in (("on-line", giqapsun.ON), ("off-line", giqapsun.OFF)):
+        hours = [k for k, given in enumerate(case.orders, 1) if given == order]
+        if hours:
+            yield f"orders: {word} at hour{'s' if len(hours) > 1 else ''} {listed(hours)}"
+    yield f"opening: initial {case.initial} MW, elapsed {counted(case.elapsed, 'hour')} {state}"
+    yield (
+        f"times: minup {case.minup}, mindown {case.mindown}; a start-up takes {counted(len(case.rise), 'hour')}, "
+        f"a shut-down {len(case.fall)} and ends inside the day"
+    )
+    hour = _first_not_kept(case) if built() else None
+    if hour is not None:
+        yield f"the orders before hour {hour} can be kept together; with that of hour {hour} no list keeps every rule"
+
+
+def _first_not_kept(case):
+    """The first hour whose order cannot be kept together with those before it."""
+    for hour, order in enumerate(case.orders, 1):
+        if order != giqapsun.FREE:
+            later = [giqapsun.FREE] * (len(case.orders) - hour)
+            try:
+                giqapsun.best(replace(case, orders=[*case.orders[:hour], *later]))
+            except giqapsun.Refusal:
+                return hour
+    return None
+
+
+def _answered(runs, file, data):
+    """The best day by a program."""
     try:
         done = subprocess.run([runs], input=data, capture_output=True, check=False)
     except OSError as error:
@@ -56,31 +100,31 @@ def best_day(file, data):
     lines = done.stdout.decode("ascii", "replace").splitlines()
     refused = re.fullmatch(r"refused ([0-9]{1,9})", lines[0]) if len(lines) == 1 else None
     if refused:
-        number = int(refused[1])
-        raise Fault(file, None, f"refused {number}", REFUSALS.get(number, "not in the refusal list"))
+        raise Refused(file, int(refused[1]), _refused(int(refused[1]), data))
     if done.returncode != 0:
         raise Fault(runs, None, None, f"ended with status {done.returncode}")
-    return _day(runs, case_of(file, data), lines)
+    return _printed(runs, read_case(file, data), lines)
 
 
-def _day(runs, case, lines):
+def _refused(number, data):
+    own, case, _ = case_of(data)
+    return contradiction(case) if number == 11 and own == 0 else explained(number, data)
+
+
+def _printed(runs, reading, lines):
+    """The day that a program has printed."""
     profit = _numbers(runs, lines, 0, r"profit (-?[0-9]{1,18})")[0]
-    outputs, energies, earnings = [], [], []
-    before = case.initial
-    for k, (price, _) in enumerate(zip(case.prices, case.orders), 1):
+    outputs, before = [], reading.case.initial
+    for k in range(1, len(reading.case.prices) + 1):
         hour, output, energy = _numbers(runs, lines, k, r"([0-9]{1,5}) ([0-9]{1,5}) ([0-9]{1,6})")
         if (hour, energy) != (k, before + output):
             what = f"hour {k} with {before + output} half-megawatt-hours was expected"
             raise Fault(runs, k + 1, None, f"{lines[k]!r} where {what}")
         outputs.append(output)
-        energies.append(energy)
-        earnings.append(_earned(case, price, before, output))
         before = output
     if len(lines) != 1 + len(outputs):
         raise Fault(runs, len(outputs) + 2, None, f"more lines than the {len(outputs)} hours of the day")
-    if sum(earnings) != profit:
-        raise Fault(runs, 1, "profit", f"{profit}, and the hours earn {sum(earnings)}")
-    return Day(case, outputs, energies, earnings, profit)
+    return _day(reading, outputs, profit, str(runs))
 
 
 def _numbers(runs, lines, place, form):
@@ -91,24 +135,55 @@ def _numbers(runs, lines, place, form):
     return [int(number) for number in match.groups()]
 
 
+def _day(reading, outputs, profit, found_by):
+    before = [reading.case.initial, *outputs]
+    energies = [earlier + output for earlier, output in zip(before, outputs)]
+    earnings = [_earned(reading.case, *hour) for hour in zip(reading.case.prices, before, outputs)]
+    if sum(earnings) != profit:
+        raise Fault(found_by, 1, "profit", f"{profit}, and the hours earn {sum(earnings)}")
+    return Day(reading, outputs, energies, earnings, profit, found_by)
+
+
 def _earned(case, price, before, output):
     """What an hour earns in half-mills: energy sold less F, A if on-line, B for a start, C for a stop."""
-    charges = case.A * (output > 0)
-    charges += case.B * (before == 0 < output)
-    charges += case.C * (output == 0 < before)
-    return (price - case.F) * (before + output) - 2 * charges
+    charges = case.fixed * (output > 0)
+    charges += case.startcost * (before == 0 < output)
+    charges += case.stopcost * (output == 0 < before)
+    return (price - case.variable) * (before + output) - 2 * charges
 
 
-def table(day):
+def best_text(day):
     """The day hour by hour, with totals."""
     lines = ["hour  order  price ($/MWh)  output (MW)  energy (MWh)    earnings ($)"]
-    hours = zip(day.case.prices, day.case.orders, day.outputs, day.energies, day.earnings)
-    for k, (price, order, output, energy, earned) in enumerate(hours, 1):
+    for k, order, price, output, energy, earned in day.hours():
         lines.append(
-            f"{k:4}  {order_name(order):5}  {dollars_of_mills(price):>13}  {output:11}"
+            f"{k:4}  {order:5}  {dollars_of_mills(price):>13}  {output:11}"
             f"  {megawatt_hours(energy):>12}  {dollars_of_half_mills(earned):>14}"
         )
     energy, profit = megawatt_hours(sum(day.energies)), dollars_of_half_mills(day.profit)
     lines.append(f"total{'':35}  {energy:>12}  {profit:>14}")
     lines.append(f"profit {day.profit} half-mills")
+    found = "the proved library" if day.found_by == "library" else f"the program {day.found_by}"
+    lines.append(f"{BY[day.reading.by]}; found by {found}")
     return "\n".join(lines) + "\n"
+
+
+def best_json(day):
+    """The day for a program."""
+    return json_of({
+        "profit_half_mills": day.profit,
+        "profit_dollars": machine(dollars_of_half_mills(day.profit)),
+        "energy_half_mwh": sum(day.energies),
+        "hours": [dict(zip(COLUMNS, row)) for row in _rows(day)],
+        "read_by": day.reading.by,
+        "found_by": day.found_by,
+    })
+
+
+def best_csv(day):
+    """The day as a table."""
+    return csv_of(COLUMNS, _rows(day))
+
+
+def _rows(day):
+    return [(*hour, machine(dollars_of_half_mills(hour[-1]))) for hour in day.hours()]

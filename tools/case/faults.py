@@ -1,33 +1,34 @@
 """What is wrong with an input, and where."""
 
+from module import giqapsun
+
 
 class Fault(Exception):
     """A fault of an input: the file, the line or byte if there is one, the field, and what is wrong."""
 
     def __init__(self, file, place, field, what):
-        parts = [f"{file}:{place}" if place is not None else str(file)]
+        parts = [f"{named(file)}:{place}" if place is not None else named(file)]
         if field is not None:
             parts.append(field)
         super().__init__(": ".join(parts + [what]))
 
 
-def contents(file):
-    """The bytes of a file."""
-    try:
-        with open(file, "rb") as opened:
-            return opened.read()
-    except OSError as error:
-        raise Fault(file, None, None, error.strerror or str(error)) from None
+class Refused(Fault):
+    """A refusal of the refusal list, with what the tool can say of it: a line for each field at fault."""
+
+    def __init__(self, file, number, details=()):
+        self.number = number
+        self.text = giqapsun.REFUSALS.get(number, "not in the refusal list")
+        self.details = list(details)
+        super().__init__(file, None, f"refused {number}", self.text)
+
+    def __str__(self):
+        return "\n".join([super().__str__(), *self.details])
 
 
-def text(file):
-    """The text of a file in UTF-8, with or without a byte-order mark."""
-    data = contents(file)
-    try:
-        return data.decode("utf-8-sig")
-    except UnicodeDecodeError as error:
-        line = data.count(b"\n", 0, error.start) + 1
-        raise Fault(file, line, None, "not UTF-8") from None
+def named(file):
+    """The name of a file in a message; `-` is the standard input."""
+    return "standard input" if str(file) == "-" else str(file)
 
 
 def quoted(cell):

@@ -1,96 +1,82 @@
-"""The case file: bytes, least significant first.
+"""The case file as the tool itself reads and writes it: bytes, least significant first.
 
-Bytes 0 to 15 are four pairs of 16-bit offset and length: unit, start-up trajectory, shut-down
-trajectory, hours. Nothing is tested here but what the bytes can hold: whether a case is within its
-limits is for the library to say.
+Bytes 0 to 15 are four pairs of 16-bit offset and length: unit, rise, fall, hours. This stands in for the
+library where it is not built, and says which bytes of a refused file are at fault.
 """
 
 import struct
-from dataclasses import dataclass, field
 
-from faults import Fault
+from limits import STAGES, HOURS, outside, refusal
+from module import giqapsun
+from words import UNIT
 
-PAIRS = struct.Struct("<8H")
-UNIT = struct.Struct("<6H4I2H")
-SECTIONS = ("unit", "start-up trajectory", "shut-down trajectory", "hours")
+_PAIRS = struct.Struct("<8H")
+_UNIT = struct.Struct("<6H4I2H")
 
-MOST_16 = 2**16 - 1
-MOST_32 = 2**32 - 1
-
-# what an order byte says
-ORDERS = ("free", "on", "off")
-
-
-@dataclass
-class Case:
-    """A case: outputs in MW, times in hours, prices and costs in mills."""
-
-    capacity: int = 0
-    minimum: int = 0
-    ramp_up: int = 0
-    ramp_down: int = 0
-    minimum_up: int = 0
-    minimum_down: int = 0
-    F: int = 0
-    A: int = 0
-    B: int = 0
-    C: int = 0
-    initial: int = 0
-    elapsed: int = 0
-    start_up: list = field(default_factory=list)
-    shut_down: list = field(default_factory=list)
-    prices: list = field(default_factory=list)
-    orders: list = field(default_factory=list)
-
-
-# the fields of the unit's section, in its order
-UNIT_FIELDS = (
-    "capacity", "minimum", "ramp_up", "ramp_down", "minimum_up", "minimum_down",
-    "F", "A", "B", "C", "initial", "elapsed",
-)
+# the sections, with the bytes of an entry, and the most entries there may be
+_SECTIONS = (("unit", _UNIT.size, 1), ("rise", 2, STAGES), ("fall", 2, STAGES), ("hours", 3, HOURS))
 
 
 def bytes_of(case):
-    """The file of a case whose numbers fit their widths."""
+    """The file of a case within the limits."""
     sections = [
-        UNIT.pack(*(getattr(case, name) for name in UNIT_FIELDS)),
-        struct.pack(f"<{len(case.start_up)}H", *case.start_up),
-        struct.pack(f"<{len(case.shut_down)}H", *case.shut_down),
+        _UNIT.pack(*(getattr(case, name) for name in UNIT)),
+        struct.pack(f"<{len(case.rise)}H", *case.rise),
+        struct.pack(f"<{len(case.fall)}H", *case.fall),
         b"".join(struct.pack("<HB", *hour) for hour in zip(case.prices, case.orders)),
     ]
-    pairs, offset = [], PAIRS.size
+    pairs, offset = [], _PAIRS.size
     for section in sections:
         pairs += [offset, len(section)]
         offset += len(section)
-    return PAIRS.pack(*pairs) + b"".join(sections)
+    return _PAIRS.pack(*pairs) + b"".join(sections)
 
 
-def case_of(file, data):
-    """The case in the bytes of a file; a fault if the bytes do not divide into its fields."""
-    unit, start_up, shut_down, hours = _sections(file, data)
-    case = Case(**dict(zip(UNIT_FIELDS, UNIT.unpack(unit))))
-    case.start_up = [output for output, in struct.iter_unpack("<H", start_up)]
-    case.shut_down = [output for output, in struct.iter_unpack("<H", shut_down)]
+def case_of(data):
+    """Number 0, the case of a file, and no words; or the refusal's number, None, and a line for each fault."""
+    faults = list(_pairs_at_fault(data))
+    if faults:
+        return 1, None, faults
+    pairs = _PAIRS.unpack_from(data)
+    faults = list(_lengths_at_fault(pairs))
+    if faults:
+        return 2, None, faults
+    case = _fields([data[offset : offset + length] for offset, length in zip(pairs[::2], pairs[1::2])])
+    number, faults = refusal(case)
+    return number, None if number else case, [f"{field}: {what}" for field, what in faults]
+
+
+def _fields(sections):
+    unit, rise, fall, hours = sections
+    case = giqapsun.Case(**dict(zip(UNIT, _UNIT.unpack(unit))))
+    case.rise = [output for output, in struct.iter_unpack("<H", rise)]
+    case.fall = [output for output, in struct.iter_unpack("<H", fall)]
     for price, order in struct.iter_unpack("<HB", hours):
         case.prices.append(price)
         case.orders.append(order)
     return case
 
 
-def _sections(file, data):
-    if len(data) < PAIRS.size:
-        raise Fault(file, f"byte {len(data)}", "pairs", f"{len(data)} bytes, and the pairs alone take 16")
-    pairs = PAIRS.unpack_from(data)
-    sections, expected = [], PAIRS.size
-    for i, (name, entry) in enumerate(zip(SECTIONS, (UNIT.size, 2, 2, 3))):
+def _pairs_at_fault(data):
+    if len(data) < _PAIRS.size:
+        yield f"bytes: {len(data)}, at least {_PAIRS.size} needed"
+        return
+    pairs, end = _PAIRS.unpack_from(data), _PAIRS.size
+    for i, (name, _, _) in enumerate(_SECTIONS):
         offset, length = pairs[2 * i : 2 * i + 2]
-        place = f"byte {4 * i}"
-        if offset != expected:
-            raise Fault(file, place, f"offset of {name}", f"{offset} where {expected} was expected")
-        if length % entry or (i == 0 and length != entry):
-            raise Fault(file, place, f"length of {name}", f"{length}, and an entry takes {entry} bytes")
-        expected = offset + length
-        sections.append(data[offset:expected])
-    if expected != len(data):
-        raise Fault(file, "byte 12", "length of hours", f"they end at {expected}, the file at {len(data)}")
-    return sections
+        if offset != end:
+            yield f"byte {4 * i}: offset of {name}: {offset}, {end} needed"
+        end = offset + length
+    if end != len(data):
+        yield f"byte 12: end of hours: {end}, and the file ends at {len(data)}"
+
+
+def _lengths_at_fault(pairs):
+    for i, (name, width, most) in enumerate(_SECTIONS):
+        length = pairs[2 * i + 1]
+        if most == 1 and length != width:
+            yield f"byte {4 * i + 2}: length of {name}: {length}, {width} bytes needed"
+        elif length % width:
+            yield f"byte {4 * i + 2}: length of {name}: {length}, {width} bytes for each entry needed"
+        else:
+            yield from (f"{name}: {what}" for what in outside(length // width, 1, most))

@@ -33,6 +33,11 @@ def megawatt_hours(halves):
     return _decimal(5 * halves, 10, 1)
 
 
+def machine(amount):
+    """An amount as a program reads it, without the commas of its thousands."""
+    return amount.replace(",", "")
+
+
 def _decimal(number, unit, decimals):
     sign = "-" if number < 0 else ""
     whole, rest = divmod(abs(number), unit)

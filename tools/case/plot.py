@@ -3,7 +3,7 @@
 from html import escape
 from itertools import groupby
 
-from layout import ORDERS
+from words import ORDERS
 from money import dollars_of_half_mills, dollars_of_mills, megawatt_hours
 
 WIDTH, HEIGHT = 960, 640
@@ -88,13 +88,13 @@ class Panel:
 
 def svg(day, name):
     """The picture of a day, with the name of its case for a title."""
-    case, hours = day.case, len(day.outputs)
+    case, hours = day.reading.case, len(day.outputs)
     outputs = Panel(hours, max(case.capacity, case.initial), OUTPUT_TOP, OUTPUT_BOTTOM)
     highest = max(case.prices)
-    costs = [(case.F, "variable cost F")] if case.F <= 2 * highest else []
+    costs = [(case.variable, "variable cost F")] if case.variable <= 2 * highest else []
     prices = Panel(hours, max([highest, *(cost for cost, _ in costs)]), PRICE_TOP, PRICE_BOTTOM)
     profit, energy = dollars_of_half_mills(day.profit), megawatt_hours(sum(day.energies))
-    earned = f"profit {profit} $, energy {energy} MWh, variable cost F {dollars_of_mills(case.F)} $/MWh"
+    earned = f"profit {profit} $, energy {energy} MWh, variable cost F {dollars_of_mills(case.variable)} $/MWh"
     parts = [
         f'<svg xmlns="http://www.w3.org/2000/svg" width="{WIDTH}" height="{HEIGHT}" '
         f'viewBox="0 0 {WIDTH} {HEIGHT}" role="img">',

@@ -1,49 +1,53 @@
-"""A case in words: every field with its unit, money in dollars too."""
+"""A case in words: every field with its unit, money in dollars too; and as JSON and CSV."""
 
-from layout import ORDERS
+from dataclasses import asdict, fields
+
+from module import giqapsun
 from money import dollars_of_mills
+from reading import BY
+from tables import csv_of, json_of
+from words import COSTS, NUMBERS, ORDERS, TRAJECTORIES, UNIT
 
 
-def shown(case):
+def shown_text(reading):
     """The text of a case."""
-    state = "on-line" if case.initial else "off-line"
-    lines = [
-        _line("capacity", case.capacity, "MW"),
-        _line("minimum output", case.minimum, "MW"),
-        _line("ramp-up limit RU", case.ramp_up, "MW per hour"),
-        _line("ramp-down limit RD", case.ramp_down, "MW per hour"),
-        _line("minimum up time", case.minimum_up, "h"),
-        _line("minimum down time", case.minimum_down, "h"),
-        _cost("variable cost F", case.F, "per MWh"),
-        _cost("fixed cost A", case.A, "per on-line hour"),
-        _cost("start-up cost B", case.B, "per start"),
-        _cost("shut-down cost C", case.C, "per stop"),
-        _line("output p(0) before hour 1", case.initial, "MW"),
-        _line(f"hours h {state} before hour 1", case.elapsed, "h"),
-        _list("start-up trajectory PU", "UD", case.start_up),
-        _list("shut-down trajectory PD", "DD", case.shut_down),
-        f"hours T: {len(case.prices)}",
-        "",
-        "hour  price (mills/MWh)  price ($/MWh)  order",
-    ]
+    case = reading.case
+    lines = [_cost(case, name) if name in COSTS else _number(case, name) for name in UNIT]
+    lines += [_trajectory(case, name) for name in TRAJECTORIES]
+    lines += [f"{'hours':9} {len(case.prices):>11} T", "", "hour  price (mills/MWh)  price ($/MWh)  order"]
     for k, (price, order) in enumerate(zip(case.prices, case.orders), 1):
-        lines.append(f"{k:4}  {price:17}  {dollars_of_mills(price):>13}  {order_name(order)}")
-    return "\n".join(lines) + "\n"
+        lines.append(f"{k:4}  {price:17}  {dollars_of_mills(price):>13}  {ORDERS[order]}")
+    return "\n".join([*lines, "", BY[reading.by]]) + "\n"
 
 
-def order_name(order):
-    """The word for an order byte."""
-    return ORDERS[order] if order < len(ORDERS) else f"{order}, no order"
+def shown_json(reading):
+    """The case as the record has it: MW, hours, mills, order bytes."""
+    return json_of({"case": asdict(reading.case), "read_by": reading.by})
 
 
-def _line(name, number, unit):
-    return f"{name + ':':32} {number:>11} {unit}"
+def shown_csv(reading):
+    """The case as a table: a row for each number, with its place in a list, counted from 1."""
+    rows = []
+    for name in (field.name for field in fields(giqapsun.Case)):
+        value = getattr(reading.case, name)
+        rows += [(name, i, entry) for i, entry in enumerate(value, 1)] if isinstance(value, list) else [(name, None, value)]
+    return csv_of(("field", "entry", "value"), rows)
 
 
-def _cost(name, mills, unit):
-    return f"{name + ':':32} {mills:>11} mills {unit} = ${dollars_of_mills(mills)} {unit}"
+def _number(case, name):
+    words, unit = NUMBERS[name]
+    if name == "elapsed":
+        words = f"h, hours {'on-line' if case.initial else 'off-line'} before hour 1"
+    return f"{name:9} {getattr(case, name):>11} {unit:13} {words}".rstrip()
 
 
-def _list(name, count, outputs):
-    numbers = ", ".join(map(str, outputs))
-    return f"{name}, {count} {len(outputs)}: {numbers} MW" if outputs else f"{name}, {count} 0: none"
+def _cost(case, name):
+    words, unit = COSTS[name]
+    mills = getattr(case, name)
+    return f"{name:9} {mills:>11} {'mills':13} {words}, {unit}: ${dollars_of_mills(mills)}"
+
+
+def _trajectory(case, name):
+    words, count = TRAJECTORIES[name]
+    outputs = getattr(case, name)
+    return f"{name:9} {', '.join(map(str, outputs)):>11} {'MW':13} {words}, {count} {len(outputs)}"

@@ -1,29 +1,35 @@
 """The unit, from a TOML file: one key for each field, all of them required.
 
-    capacity, minimum, initial                 MW
-    ramp_up, ramp_down                         MW per hour
-    minimum_up, minimum_down, elapsed          hours
-    start_up, shut_down                        lists of MW
-    F_dollars or F_mills                       per MWh
-    A_dollars or A_mills                       per on-line hour
-    B_dollars or B_mills                       per start
-    C_dollars or C_mills                       per stop
+    capacity, minimum, initial                       MW
+    rampup, rampdown                                 MW per hour
+    minup, mindown, elapsed                          hours
+    rise, fall                                       lists of MW
+    variable_dollars or variable_mills               per MWh
+    fixed_dollars or fixed_mills                     per on-line hour
+    startcost_dollars or startcost_mills             per start
+    stopcost_dollars or stopcost_mills               per stop
 
-Each cost says its unit in its key. Dollars have up to three decimals and are taken digit by digit.
+The keys are the names of the record. Each cost says its unit in its key. Dollars have up to three decimals
+and are taken digit by digit.
 """
 
 import re
 import tomllib
 
-from faults import Fault, quoted, text
-from layout import MOST_16, MOST_32, PAIRS, UNIT, Case
-from money import dollars_of_mills, mills_of_dollars
+from faults import Fault, quoted
+from files import text
+from module import giqapsun
+from money import dollars_of_mills, machine, mills_of_dollars
+from words import COSTS, NUMBERS, TRAJECTORIES
 
-NUMBERS = (
-    "capacity", "minimum", "ramp_up", "ramp_down", "minimum_up", "minimum_down", "initial", "elapsed",
-)
-COSTS = ("F", "A", "B", "C")
-LISTS = ("start_up", "shut_down")
+# other words for a key, and the record's
+SYNONYMS = {
+    "ramp_up": "rampup", "ramp_down": "rampdown", "RU": "rampup", "RD": "rampdown",
+    "minimum_up": "minup", "minimum_down": "mindown", "min_up": "minup", "min_down": "mindown",
+    "start_up": "rise", "shut_down": "fall", "PU": "rise", "PD": "fall",
+    "F": "variable", "A": "fixed", "B": "startcost", "C": "stopcost",
+    "startup": "startcost", "shutdown": "stopcost",
+}
 
 
 class Digits(str):
@@ -43,17 +49,18 @@ class Unit:
             raise Fault(file, _line_in(str(error)), None, f"not TOML: {error}") from None
 
     def fault(self, key, what):
-        """A fault at a key."""
-        pattern = re.compile(rf"\s*\[*\s*[\"']?{re.escape(key)}[\"']?\s*[\].=]")
+        """A fault at a key, or at the cost of that name."""
+        name = re.escape(key) if key in self.values else rf"{re.escape(key)}(?:_dollars|_mills)"
+        pattern = re.compile(rf"\s*\[*\s*[\"']?{name}[\"']?\s*[\].=]")
         lines = (n for n, line in enumerate(self.lines, 1) if pattern.match(line))
         return Fault(self.file, next(lines, None), key, what)
 
-    def number(self, key, value, most):
-        """A whole number from 0 to most."""
+    def number(self, key, value):
+        """A whole number."""
         if not isinstance(value, int) or isinstance(value, bool):
             raise self.fault(key, f"{_shown(value)} is not a whole number")
-        if not 0 <= value <= most:
-            raise self.fault(key, f"{_shown(value)} is outside 0 to {most}")
+        if abs(value) >= 10**15:
+            raise self.fault(key, f"{_shown(value)} is too large")
         return value
 
     def list(self, key):
@@ -61,7 +68,7 @@ class Unit:
         value = self.values[key]
         if not isinstance(value, list):
             raise self.fault(key, f"{_shown(value)} is not a list of outputs")
-        return [self.number(key, output, MOST_16) for output in value]
+        return [self.number(key, output) for output in value]
 
     def cost(self, name):
         """A cost in mills, from the key in dollars or the key in mills."""
@@ -71,7 +78,7 @@ class Unit:
         if len(keys) > 1:
             raise self.fault(keys[1], f"{keys[0]} is given too")
         key, value = keys[0], self.values[keys[0]]
-        return self.dollars(key, value) if key.endswith("_dollars") else self.number(key, value, MOST_32)
+        return self.dollars(key, value) if key.endswith("_dollars") else self.number(key, value)
 
     def dollars(self, key, value):
         """The mills of an amount in dollars."""
@@ -81,30 +88,46 @@ class Unit:
         mills = mills_of_dollars(_shown(value).replace("_", ""))
         if mills is None:
             raise self.fault(key, f"{_shown(value)} is not an amount in dollars with up to three decimals")
-        if not 0 <= mills <= MOST_32:
-            raise self.fault(key, f"{_shown(value)} is outside 0 to {dollars_of_mills(MOST_32)}")
         return mills
 
+    def case(self):
+        """A case with the unit's fields, and no hours."""
+        known = {*NUMBERS, *TRAJECTORIES, *(f"{cost}_{money}" for cost in COSTS for money in ("dollars", "mills"))}
+        for key in self.values:
+            if key not in known:
+                raise self.fault(key, _no_key(key))
+        for key in (*NUMBERS, *TRAJECTORIES):
+            if key not in self.values:
+                raise Fault(self.file, None, key, "the key is missing")
+        fields = {key: self.number(key, self.values[key]) for key in NUMBERS}
+        fields |= {cost: self.cost(cost) for cost in COSTS}
+        return giqapsun.Case(**fields, **{key: self.list(key) for key in TRAJECTORIES})
 
-def read_unit(file):
-    """A case with the unit's fields, and no hours."""
-    unit = Unit(file)
-    known = {*NUMBERS, *LISTS, *(f"{cost}_{money}" for cost in COSTS for money in ("dollars", "mills"))}
-    for key in unit.values:
-        if key not in known:
-            raise unit.fault(key, "no such key")
-    for key in NUMBERS + LISTS:
-        if key not in unit.values:
-            raise Fault(file, None, key, "the key is missing")
-    fields = {key: unit.number(key, unit.values[key], MOST_16) for key in NUMBERS}
-    fields |= {cost: unit.cost(cost) for cost in COSTS}
-    fields |= {key: unit.list(key) for key in LISTS}
-    end = PAIRS.size + UNIT.size
-    for key in LISTS:
-        end += 2 * len(fields[key])
-        if end > MOST_16:
-            raise unit.fault(key, f"{len(fields[key])} outputs, more than the file has room for")
-    return Case(**fields)
+
+def unit_text(case):
+    """The file that gives the unit of a case back."""
+    lines = [_line(name, getattr(case, name), *words) for name, words in NUMBERS.items()]
+    lines += [
+        _line(f"{name}_dollars", machine(dollars_of_mills(getattr(case, name))), *words)
+        for name, words in COSTS.items()
+    ]
+    lines += [_line(name, getattr(case, name), words, "MW") for name, (words, _) in TRAJECTORIES.items()]
+    return "\n".join(lines) + "\n"
+
+
+def _line(key, value, words, unit):
+    note = f"{words}, {unit}" if words else unit
+    return f"{f'{key} = {value}':40}  # {note}"
+
+
+def _no_key(key):
+    name, money = re.fullmatch(r"(.*?)(_dollars|_mills)?", key, re.DOTALL).groups()
+    right = SYNONYMS.get(name)
+    if right is None and name in COSTS:
+        right = name
+    if right is None:
+        return "no such key"
+    return f"no such key; it is {right}{money or '_dollars or ' + right + '_mills' if right in COSTS else ''}"
 
 
 def _shown(value):
@@ -113,7 +136,7 @@ def _shown(value):
     if isinstance(value, int):
         return str(value) if abs(value) < 10**15 else "a number of more than 15 digits"
     if isinstance(value, Digits):
-        return str(value)
+        return value if len(value) <= 40 else value[:40] + "..."
     if isinstance(value, str):
         return quoted(value)
     return {list: "a list", dict: "a table"}.get(type(value), "a date or time")

@@ -1,0 +1,203 @@
+"""Case files of the day scheduler: make one, show one, find its best day, check a list of outputs."""
+
+import argparse
+import os
+import sys
+from dataclasses import dataclass
+
+from best import best_csv, best_day, best_json, best_text
+from check import checked, checked_csv, checked_json, checked_text
+from faults import Fault, Refused, named
+from files import contents, write
+from lists import read_list
+from module import giqapsun
+from plot import svg
+from prices import prices_text, read_prices
+from reading import BY, file_of, read_case, reader
+from show import shown_csv, shown_json, shown_text
+from tables import json_of
+from unit import Unit, unit_text
+
+STATUSES = """\
+Exit status: 0 done, and for check: the list passes; 1 the list breaks a rule (check only); 2 refused, bad input, or
+an answer that cannot be written. A fault is named on standard error.
+"""
+
+MAKE = """\
+The unit's file holds one key for each field: capacity, minimum, initial (MW), rampup, rampdown (MW per hour), minup,
+mindown, elapsed (hours), rise, fall (lists of MW), and for each of variable (F, per MWh), fixed (A, per on-line hour),
+startcost (B, per start) and stopcost (C, per stop) either a key in dollars, as variable_dollars, with up to three
+decimals, or one in mills, as variable_mills. The prices' file begins with the line hour,price_dollars or
+hour,price_mills, with ,order after it if any hour has an order, and has a line for each hour. The case is read again
+before it is written: a case that would be refused is not written.
+"""
+
+SHOW = """\
+With --toml or --prices the files are written that make takes, and nothing is printed: making them again gives the
+same case. A file that would be refused is not shown: the fault says why.
+"""
+
+CHECK = """\
+The list's file begins with the line hour,output and has a line for each hour from 1, outputs in MW; the table that
+best --csv prints is one too. Exit status 0: the list passes; 1: it breaks a rule; 2: refused or bad input.
+"""
+
+
+@dataclass
+class Answer:
+    """What is printed, and the exit status."""
+
+    data: bytes
+    status: int = 0
+
+
+def make(arguments):
+    """The file of a unit and its hours."""
+    unit = Unit(arguments.unit)
+    case = unit.case()
+    case.prices, case.orders = read_prices(arguments.prices)
+    number, data, faults = file_of(case)
+    if number:
+        files = f"{named(arguments.unit)}, {named(arguments.prices)}"
+        raise Refused(files, number, [_placed(unit, arguments.prices, *fault) for fault in faults])
+    if reader() != "library":
+        say(BY[reader()])
+    if arguments.output is None:
+        return Answer(data)
+    write(arguments.output, data)
+    return Answer(b"")
+
+
+def _placed(unit, prices, field, what):
+    """A fault of a field with the file that the field comes from, and its line if it is a key's."""
+    return str(Fault(prices, None, field, what) if field in ("hours", "orders") else unit.fault(field, what))
+
+
+def show(arguments):
+    """A case in words, or the files that it is made of."""
+    reading = read_case(arguments.file, contents(arguments.file))
+    if arguments.toml is None and arguments.prices is None:
+        return _formed(arguments, reading, shown_text, shown_json, shown_csv)
+    if arguments.toml is not None:
+        write(arguments.toml, unit_text(reading.case).encode())
+    if arguments.prices is not None:
+        write(arguments.prices, prices_text(reading.case).encode())
+    return Answer(b"")
+
+
+def best(arguments):
+    """The table of the best day; its plot goes to a file of its own."""
+    day = best_day(arguments.file, contents(arguments.file))
+    if arguments.plot is not None:
+        write(arguments.plot, svg(day, os.path.basename(named(arguments.file))).encode())
+    return _formed(arguments, day, best_text, best_json, best_csv)
+
+
+def check(arguments):
+    """The verdict on a list."""
+    reading = read_case(arguments.file, contents(arguments.file))
+    verdict = checked(reading, arguments.list, read_list(arguments.list))
+    answer = _formed(arguments, verdict, checked_text, checked_json, checked_csv)
+    return Answer(answer.data, verdict.status)
+
+
+def _formed(arguments, answer, text, json, csv):
+    """An answer in the form that is asked for."""
+    return Answer({"text": text, "json": json, "csv": csv}[arguments.form](answer).encode())
+
+
+def parsed(words):
+    """The command line."""
+    parser = argparse.ArgumentParser(prog="case", description=__doc__, epilog=STATUSES)
+    parser.add_argument("--version", action="version", version=f"case {giqapsun.__version__}")
+    commands = parser.add_subparsers(required=True, metavar="make | show | best | check")
+    command = _command(commands, make, "write the case of a unit and its prices", MAKE)
+    command.add_argument("unit", metavar="UNIT.toml")
+    command.add_argument("prices", metavar="PRICES.csv")
+    command.add_argument("-o", dest="output", metavar="FILE", help="write this file, whole or not at all")
+    command = _command(commands, show, "print every field of a case", SHOW)
+    command.add_argument("file", metavar="DAY.case")
+    command.add_argument("--toml", metavar="UNIT.toml", help="write the unit's file")
+    command.add_argument("--prices", metavar="PRICES.csv", help="write the prices' file")
+    _forms(command)
+    command = _command(commands, best, "find the best day of a case and print it as a table", "")
+    command.add_argument("file", metavar="DAY.case")
+    command.add_argument("--plot", metavar="FILE.svg", help="draw outputs, prices and earnings too")
+    _forms(command)
+    command = _command(commands, check, "check a list of outputs", CHECK)
+    command.add_argument("file", metavar="DAY.case")
+    command.add_argument("list", metavar="LIST.csv")
+    _forms(command)
+    arguments = parser.parse_args(words)
+    inputs = [getattr(arguments, name, None) for name in ("unit", "file", "list")]
+    inputs.append(arguments.prices if arguments.run is make else None)
+    if inputs.count("-") > 1:
+        parser.error("standard input can be read as one file only")
+    return arguments
+
+
+def _command(commands, run, words, description):
+    standard = "Any file that is read may be -, the standard input."
+    command = commands.add_parser(
+        run.__name__, help=words, description=f"{description} {standard}", epilog=STATUSES
+    )
+    command.set_defaults(run=run, form="text")
+    return command
+
+
+def _forms(command):
+    forms = command.add_mutually_exclusive_group()
+    for form in ("json", "csv"):
+        forms.add_argument(
+            f"--{form}", dest="form", action="store_const", const=form, help=f"print {form.upper()}, for a program"
+        )
+
+
+def say(message):
+    """Prints each line of a message to standard error, if there is one."""
+    try:
+        for line in message.splitlines():
+            sys.stderr.write(f"case: {line}\n")
+        sys.stderr.flush()
+    except (AttributeError, OSError):
+        pass
+
+
+def answered(words):
+    """The answer to a command line; a fault is said, and has status 2."""
+    arguments = parsed(words)
+    try:
+        return arguments.run(arguments)
+    except Refused as refused:
+        say(str(refused))
+        fields = {"refused": refused.number, "text": refused.text, "details": refused.details}
+        return Answer(json_of(fields).encode() if arguments.form == "json" else b"", 2)
+    except (Fault, giqapsun.LibraryError) as fault:
+        say(str(fault))
+    return Answer(b"", 2)
+
+
+def main():
+    """Prints the answer and returns the exit status. A reader that has gone is no fault: the status is then that of
+    a program that the closed pipe ends."""
+    try:
+        answer = answered(sys.argv[1:])
+        if answer.data:
+            sys.stdout.buffer.write(answer.data)
+            sys.stdout.buffer.flush()
+        return answer.status
+    except BrokenPipeError:
+        _give_up()
+        return 141
+    except KeyboardInterrupt:
+        return 130
+    except (AttributeError, OSError) as error:
+        say(f"standard output: {getattr(error, 'strerror', None) or 'it is closed'}")
+        _give_up()
+        return 2
+
+
+def _give_up():
+    """Lets go of what was not written, so that it is not tried again at the end."""
+    if sys.stdout is not None:
+        os.dup2(os.open(os.devnull, os.O_WRONLY), sys.stdout.fileno())
