@@ -181,7 +181,7 @@ class Words(ToolTest):
         by those numbers no earlier hour and no lower rule is."""
         chance = random.Random(7)
         seen = {}
-        for _ in range(6000):
+        for _ in range(3000):
             case, outputs = _random(chance)
             verdict = giqapsun.check(case, outputs)
             marks = Marks(case, outputs)

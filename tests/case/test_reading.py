@@ -25,7 +25,7 @@ class OwnReader(ToolTest):
     def test_damaged_files(self):
         chance = random.Random(3)
         numbers = set()
-        for _ in range(4000):
+        for _ in range(2500):
             data = damaged(chance, chance.choice((CASE_7, SOURCE)))
             number, case, faults = case_of(data)
             numbers.add(number)

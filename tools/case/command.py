@@ -103,7 +103,7 @@ def check(arguments):
 
 def _formed(arguments, answer, text, json, csv):
     """An answer in the form that is asked for."""
-    return Answer({"text": text, "json": json, "csv": csv}[arguments.form](answer).encode())
+    return Answer({"text": text, "json": json, "csv": csv}[arguments.form](answer).encode("utf-8", "replace"))
 
 
 def parsed(words):

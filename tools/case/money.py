@@ -20,17 +20,17 @@ def mills_of_dollars(digits):
 
 def dollars_of_mills(mills):
     """An amount in mills as dollars with three decimals, as 1,234.567."""
-    return _decimal(mills, 1000, 3)
+    return decimal(mills, 1000, 3)
 
 
 def dollars_of_half_mills(half_mills):
     """An amount in half-mills as dollars with four decimals, as -0.0265."""
-    return _decimal(5 * half_mills, 10000, 4)
+    return decimal(5 * half_mills, 10000, 4)
 
 
 def megawatt_hours(halves):
     """Energy in half-megawatt-hours as MWh with one decimal."""
-    return _decimal(5 * halves, 10, 1)
+    return decimal(5 * halves, 10, 1)
 
 
 def machine(amount):
@@ -38,7 +38,8 @@ def machine(amount):
     return amount.replace(",", "")
 
 
-def _decimal(number, unit, decimals):
+def decimal(number, unit, decimals):
+    """A number of parts, so many to the unit, with its decimals."""
     sign = "-" if number < 0 else ""
     whole, rest = divmod(abs(number), unit)
     return f"{sign}{whole:,}.{rest:0{decimals}d}"

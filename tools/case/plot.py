@@ -1,36 +1,83 @@
-"""The best day as an SVG picture: outputs in the upper panel, prices in the lower, hours along both."""
+"""The best day as an SVG picture: outputs, prices and earnings one above the other, hours along all three.
+
+Nothing is told by colour alone: ordered hours are hatched and lettered, losses are hatched and stand below 0. Every
+colour has a class, so that a dark screen gets colours of its own and paper those of the light.
+"""
 
 from html import escape
 from itertools import groupby
 
+from money import decimal, dollars_of_half_mills, dollars_of_mills, megawatt_hours
 from words import ORDERS
-from money import dollars_of_half_mills, dollars_of_mills, megawatt_hours
 
-WIDTH, HEIGHT = 960, 640
+WIDTH, HEIGHT = 960, 850
 LEFT, RIGHT = 84, 846
-OUTPUT_TOP, OUTPUT_BOTTOM = 84, 344
-PRICE_TOP, PRICE_BOTTOM = 404, 564
+OUTPUTS, PRICES, EARNINGS = (96, 306), (364, 494), (552, 702)
+AMOUNTS = 730
 
-INK, GREY, GRID = "#222222", "#6b6b6b", "#dddddd"
-OUTPUT, PRICE = "#1f5fa8", "#b3541e"
-SHADE = {"on": "#dcefdc", "off": "#f3dede"}
+STYLE = """\
+text { font-family: 'DejaVu Sans', Verdana, sans-serif; font-size: 12px; fill: #1a1a1a; }
+.paper { fill: #ffffff; }
+.title { font-size: 16px; font-weight: bold; }
+.note { fill: #4a4a4a; }
+.letters { font-size: 9.5px; }
+.amount { font-size: 10px; }
+.grid { stroke: #d5d5d5; stroke-width: 1; }
+.axis { stroke: #1a1a1a; stroke-width: 1; }
+.limit { stroke: #4a4a4a; stroke-width: 1; stroke-dasharray: 6 4; }
+.line { fill: none; stroke-width: 2.5; }
+.output { stroke: #1f5fa8; }
+.price { stroke: #a34a17; }
+.area { fill: #1f5fa8; fill-opacity: 0.12; }
+.dot { fill: #1f5fa8; stroke: #1f5fa8; stroke-width: 1.5; }
+.before { fill: #ffffff; }
+.gain { fill: #2e6e4e; stroke: #1a1a1a; stroke-width: 0.7; }
+.loss { fill: url(#loss); stroke: #1a1a1a; stroke-width: 0.7; }
+.on { fill: url(#on); }
+.off { fill: url(#off); }
+.swatch { stroke: #4a4a4a; stroke-width: 1; }
+.shade-on { fill: #e3f1e3; }
+.shade-off { fill: #f5e2e2; }
+.shade-loss { fill: #f3d9c9; }
+.hatch-on { stroke: #5d8f5d; stroke-width: 1.2; }
+.hatch-off { stroke: #a86060; stroke-width: 1.2; }
+.hatch-loss { stroke: #8a3b12; stroke-width: 1.4; }
+.hour { fill: #1a1a1a; fill-opacity: 0; }
+.hour:hover { fill-opacity: 0.1; }
+@media screen and (prefers-color-scheme: dark) {
+text { fill: #ececec; }
+.paper { fill: #16181c; }
+.note { fill: #b8b8b8; }
+.grid { stroke: #3b3f46; }
+.axis, .gain, .loss { stroke: #ececec; }
+.limit, .swatch { stroke: #b8b8b8; }
+.output { stroke: #7ab3f2; }
+.price { stroke: #f0a070; }
+.area { fill: #7ab3f2; fill-opacity: 0.2; }
+.dot { fill: #7ab3f2; stroke: #7ab3f2; }
+.before { fill: #16181c; }
+.gain { fill: #4fa67a; }
+.shade-on { fill: #20301f; }
+.shade-off { fill: #38211f; }
+.shade-loss { fill: #4a2a18; }
+.hatch-on { stroke: #7fb77f; }
+.hatch-off { stroke: #d08a8a; }
+.hatch-loss { stroke: #f0a070; }
+.hour { fill: #ececec; }
+}"""
 
-STYLE = f"""\
-text {{ font-family: 'DejaVu Sans', Verdana, sans-serif; font-size: 12px; fill: {INK}; }}
-.title {{ font-size: 16px; font-weight: bold; }}
-.note {{ fill: {GREY}; }}
-.grid {{ stroke: {GRID}; stroke-width: 1; }}
-.axis {{ stroke: {INK}; stroke-width: 1; }}
-.limit {{ stroke: {GREY}; stroke-width: 1; stroke-dasharray: 6 4; }}"""
+# a hatch for each: lines that rise, lines that cross, lines that fall
+HATCHES = {"on": "M0,8 L8,0", "off": "M0,0 L8,8 M0,8 L8,0", "loss": "M0,0 L8,8"}
 
 
 class Panel:
-    """A panel: hours across, an amount up from 0."""
+    """A panel: hours across, an amount up from the least, which is 0 or below, to the most."""
 
-    def __init__(self, hours, most, top, bottom):
-        self.hours, self.top, self.bottom = hours, top, bottom
-        self.step = _step(most)
-        self.most = max(1, -(-most // self.step)) * self.step
+    def __init__(self, hours, least, most, place):
+        self.hours, (self.top, self.bottom) = hours, place
+        self.step = _step(most - least)
+        self.least = least // self.step * self.step
+        self.most = max(self.least + self.step, -(-most // self.step) * self.step)
 
     def x(self, hour):
         """The place across of the end of an hour."""
@@ -38,7 +85,7 @@ class Panel:
 
     def y(self, amount):
         """The place up of an amount."""
-        return self.bottom - (self.bottom - self.top) * amount / self.most
+        return self.bottom - (self.bottom - self.top) * (amount - self.least) / (self.most - self.least)
 
     def point(self, hour, amount):
         """The place of an amount at the end of an hour."""
@@ -46,35 +93,28 @@ class Panel:
 
     def frame(self, label, written):
         """Grid, axes, ticks and the label of the upward axis."""
-        parts = []
-        for amount in range(0, self.most + 1, self.step):
+        for amount in range(self.least, self.most + 1, self.step):
             y = self.y(amount)
-            parts.append(_line(LEFT, y, RIGHT, y, "grid"))
-            parts.append(_text(LEFT - 8, y + 4, written(amount, self.step), anchor="end"))
+            yield _line(LEFT, y, RIGHT, y, "grid")
+            yield _text(LEFT - 8, y + 4, written(amount), anchor="end")
         for hour in range(self.hours + 1):
             x = self.x(hour)
-            parts.append(_line(x, self.bottom, x, self.bottom + 5, "axis"))
+            yield _line(x, self.bottom, x, self.bottom + 5, "axis")
             if hour % (1 if self.hours <= 24 else 2) == 0:
-                parts.append(_text(x, self.bottom + 19, str(hour), anchor="middle"))
-        parts.append(_line(LEFT, self.top, LEFT, self.bottom, "axis"))
-        parts.append(_line(LEFT, self.bottom, RIGHT, self.bottom, "axis"))
-        middle = (self.top + self.bottom) / 2
-        turned = f'transform="rotate(-90 22 {middle:.1f})"'
-        parts.append(_text(22, middle, label, anchor="middle", more=turned))
-        return parts
+                yield _text(x, self.bottom + 19, str(hour), anchor="middle")
+        yield _line(LEFT, self.top, LEFT, self.bottom, "axis")
+        yield _line(LEFT, self.y(0), RIGHT, self.y(0), "axis")
+        yield _turned(22, (self.top + self.bottom) / 2, label, anchor="middle")
 
     def shades(self, orders):
-        """A shade behind the hours that have an order."""
-        end = 0
-        for order, run in groupby(orders):
-            start, end = end, end + len(list(run))
-            shade = SHADE.get(ORDERS[order])
-            if shade:
-                x, width = self.x(start), self.x(end) - self.x(start)
-                yield (
-                    f'<rect x="{x:.1f}" y="{self.top}" width="{width:.1f}" '
-                    f'height="{self.bottom - self.top}" fill="{shade}"/>'
-                )
+        """A hatch behind the hours that have an order."""
+        for order, start, end in _runs(orders):
+            yield _rect(self.x(start), self.top, self.x(end) - self.x(start), self.bottom - self.top, order)
+
+    def letters(self, orders):
+        """The order of each run of hours that has one, above the panel."""
+        for order, start, end in _runs(orders):
+            yield _text(self.x((start + end) / 2), self.top - 4, order, anchor="middle", kind="letters")
 
     def limits(self, named, gap=14):
         """Dashed lines for amounts with a name; the names stand to the right, kept apart."""
@@ -89,10 +129,7 @@ class Panel:
 def svg(day, name):
     """The picture of a day, with the name of its case for a title."""
     case, hours = day.reading.case, len(day.outputs)
-    outputs = Panel(hours, max(case.capacity, case.initial), OUTPUT_TOP, OUTPUT_BOTTOM)
-    highest = max(case.prices)
-    costs = [(case.variable, "variable cost F")] if case.variable <= 2 * highest else []
-    prices = Panel(hours, max([highest, *(cost for cost, _ in costs)]), PRICE_TOP, PRICE_BOTTOM)
+    name = "".join(letter if letter.isprintable() else "?" for letter in name)
     profit, energy = dollars_of_half_mills(day.profit), megawatt_hours(sum(day.energies))
     earned = f"profit {profit} $, energy {energy} MWh, variable cost F {dollars_of_mills(case.variable)} $/MWh"
     parts = [
@@ -100,51 +137,112 @@ def svg(day, name):
         f'viewBox="0 0 {WIDTH} {HEIGHT}" role="img">',
         f"<title>Best day of {escape(name)}: {earned}</title>",
         f"<style>{STYLE}</style>",
-        f'<rect width="{WIDTH}" height="{HEIGHT}" fill="white"/>',
+        *_hatches(),
+        _rect(0, 0, WIDTH, HEIGHT, "paper"),
         _text(LEFT, 34, f"Best day of {name}", kind="title"),
         _text(LEFT, 56, earned, kind="note"),
         *_legend(case.orders),
-        *outputs.shades(case.orders),
-        *outputs.frame("output p(k) (MW)", lambda amount, step: str(amount)),
-        *outputs.limits([(case.capacity, "capacity"), (case.minimum, "minimum")]),
-        *_outputs(outputs, [case.initial, *day.outputs]),
-        *prices.shades(case.orders),
-        *prices.frame("price ($/MWh)", _dollars),
-        *prices.limits(costs),
-        *_prices(prices, case.prices),
-        _text((LEFT + RIGHT) / 2, PRICE_BOTTOM + 46, "hour k (each tick is the end of its hour)", "middle"),
+        *_outputs(Panel(hours, 0, max(case.capacity, case.initial), OUTPUTS), case, day.outputs),
+        *_prices(hours, case),
+        *_earnings(hours, case, day.earnings),
+        _text((LEFT + RIGHT) / 2, HEIGHT - 14, "hour k (each tick is the end of its hour)", "middle"),
+        *_hovers(day),
         "</svg>",
     ]
     return "\n".join(parts) + "\n"
 
 
-def _outputs(panel, outputs):
+def _outputs(panel, case, outputs):
     """The output over the day: straight within each hour, a dot at the end of each."""
+    yield from panel.shades(case.orders)
+    yield from panel.letters(case.orders)
+    yield from panel.frame("output p(k) (MW)", str)
+    yield from panel.limits([(case.capacity, "capacity"), (case.minimum, "minimum")])
+    outputs = [case.initial, *outputs]
     points = " ".join(panel.point(hour, output) for hour, output in enumerate(outputs))
-    base = f"{panel.point(0, 0)} {points} {panel.point(panel.hours, 0)}"
-    yield f'<polygon points="{base}" fill="{OUTPUT}" fill-opacity="0.12"/>'
-    yield f'<polyline points="{points}" fill="none" stroke="{OUTPUT}" stroke-width="2.5"/>'
+    yield f'<polygon class="area" points="{panel.point(0, 0)} {points} {panel.point(panel.hours, 0)}"/>'
+    yield f'<polyline class="line output" points="{points}"/>'
     for hour, output in enumerate(outputs):
         x, y = panel.point(hour, output).split(",")
-        fill = OUTPUT if hour else "white"
-        yield f'<circle cx="{x}" cy="{y}" r="3.5" fill="{fill}" stroke="{OUTPUT}" stroke-width="1.5"/>'
+        kind = "dot" if hour else "dot before"
+        yield f'<circle class="{kind}" cx="{x}" cy="{y}" r="3.5"/>'
 
 
-def _prices(panel, prices):
-    """The price of each hour: level from its beginning to its end."""
+def _prices(hours, case):
+    """The price of each hour, level from its beginning to its end, and F; F off the scale is noted."""
+    highest, cost = max(case.prices), case.variable
+    shown = cost <= 2 * highest
+    panel = Panel(hours, 0, max(highest, cost if shown else 0), PRICES)
+    yield from panel.shades(case.orders)
+    yield from panel.frame("price ($/MWh)", lambda mills: _short(dollars_of_mills(mills)))
+    if shown:
+        yield from panel.limits([(cost, "variable cost F")])
+    else:
+        note = f"variable cost F {dollars_of_mills(cost)} $/MWh is above this scale"
+        yield _text(RIGHT, panel.top - 8, note, anchor="end", kind="note")
     points = []
-    for hour, price in enumerate(prices, 1):
+    for hour, price in enumerate(case.prices, 1):
         points += [panel.point(hour - 1, price), panel.point(hour, price)]
-    yield f'<polyline points="{" ".join(points)}" fill="none" stroke="{PRICE}" stroke-width="2.5"/>'
+    yield f'<polyline class="line price" points="{" ".join(points)}"/>'
+
+
+def _earnings(hours, case, earnings):
+    """What each hour earns: a bar, and the amount below it."""
+    parts = [5 * earned for earned in earnings]
+    panel = Panel(hours, min(0, *parts), max(0, *parts), EARNINGS)
+    yield from panel.shades(case.orders)
+    yield from panel.frame("earnings ($)", lambda amount: _short(decimal(amount, 10_000, 4)))
+    for hour, (part, earned) in enumerate(zip(parts, earnings), 1):
+        x, width = panel.x(hour - 0.82), panel.x(0.64) - panel.x(0)
+        top, bottom = panel.y(max(part, 0)), panel.y(min(part, 0))
+        yield _rect(x, top, width, bottom - top, "gain" if part > 0 else "loss")
+        yield _turned(panel.x(hour - 0.5) + 3.5, AMOUNTS, dollars_of_half_mills(earned), anchor="end", kind="amount")
+
+
+def _hovers(day):
+    """A title for each hour, over all panels."""
+    panel = Panel(len(day.outputs), 0, 1, (OUTPUTS[0], EARNINGS[1]))
+    for k, order, price, output, energy, earned in day.hours():
+        words = "" if order == "free" else f" (ordered {order}-line)"
+        title = (
+            f"hour {k}{words}: {output} MW at its end, {megawatt_hours(energy)} MWh at {dollars_of_mills(price)} "
+            f"$/MWh, earns {dollars_of_half_mills(earned)} $"
+        )
+        rect = _rect(panel.x(k - 1), panel.top, panel.x(1) - panel.x(0), panel.bottom - panel.top, "hour")
+        yield f"<g>{rect}<title>{title}</title></g>"
+
+
+def _hatches():
+    """The hatches, each on a shade of its own."""
+    yield "<defs>"
+    for name, lines in HATCHES.items():
+        yield (
+            f'<pattern id="{name}" width="8" height="8" patternUnits="userSpaceOnUse">'
+            f'<rect class="shade-{name}" width="8" height="8"/><path class="hatch-{name}" d="{lines}"/></pattern>'
+        )
+    yield "</defs>"
+
+
+def _runs(orders):
+    """The runs of hours that have the same order: its word, the end of the hour before, the end of the last."""
+    end = 0
+    for order, run in groupby(orders):
+        start, end = end, end + len(list(run))
+        if order:
+            yield ORDERS[order], start, end
 
 
 def _legend(orders):
-    """What the shades mean, if any hour has an order."""
-    names = sorted({ORDERS[order] for order in orders} & set(SHADE))
+    """What the hatches mean, if any hour has an order."""
+    names = sorted({ORDERS[order] for order in orders if order}, reverse=True)
     for i, order in enumerate(names):
-        x = RIGHT - 124 * (len(names) - i)
-        yield f'<rect x="{x}" y="46" width="12" height="12" fill="{SHADE[order]}" stroke="{GREY}"/>'
-        yield _text(x + 18, 56, f"ordered {order}-line", kind="note")
+        x = RIGHT - 150 * (len(names) - i)
+        yield _rect(x, 24, 20, 14, f"{order} swatch")
+        yield _text(x + 26, 35, f"{order}: ordered {order}-line", kind="note")
+
+
+def _rect(x, y, width, height, kind):
+    return f'<rect class="{kind}" x="{x:.1f}" y="{y:.1f}" width="{width:.1f}" height="{height:.1f}"/>'
 
 
 def _line(x1, y1, x2, y2, kind):
@@ -156,17 +254,21 @@ def _text(x, y, words, anchor="start", kind="", more=""):
     return f'<text x="{x:.1f}" y="{y:.1f}" text-anchor="{anchor}"{attributes}>{escape(words)}</text>'
 
 
-def _step(most):
-    """A round step that divides 0 to most into 3 to 6 parts."""
+def _turned(x, y, words, anchor, kind=""):
+    """A text that runs upwards."""
+    return _text(x, y, words, anchor, kind, f'transform="rotate(-90 {x:.1f} {y:.1f})"')
+
+
+def _step(span):
+    """A round step that divides a span into 3 to 6 parts."""
     step = 1
     while True:
         for factor in (1, 2, 5):
-            if most <= 6 * factor * step:
+            if span <= 6 * factor * step:
                 return factor * step
         step *= 10
 
 
-def _dollars(mills, step):
-    """An amount in mills as dollars, with as many decimals as the step needs."""
-    decimals = 0 if step % 1000 == 0 else 1 if step % 100 == 0 else 2 if step % 10 == 0 else 3
-    return f"{mills // 1000}.{mills % 1000:03d}"[: -(3 - decimals) or None].rstrip(".")
+def _short(amount):
+    """An amount without the zeros at its end."""
+    return amount.rstrip("0").rstrip(".")
