@@ -5,6 +5,7 @@ import io
 import json
 import os
 import re
+import subprocess
 
 from tool import CASE_7, FAKE, ROOT, SOURCE, SOURCE_LIST, ToolTest, file_of, known_days, texts, unit
 
@@ -183,6 +184,14 @@ class Found(ToolTest):
                 self.assertEqual(status, 2)
                 self.assertIn(f"refused {number}: ", text)
                 self.assertIn(f"case: {words}\n", text)
+
+    def test_program_by_itself(self):
+        """As the page for the control room says: status 0 always, the first word is `profit` or `refused`."""
+        if "GIQAPSUN_BEST_DAY" in os.environ:
+            self.skipTest("a program of another supplier")
+        for data, text in [(CASE_7, CASE_7_ANSWER), (b"", "refused 1\n"), (file_of(minimum=5), "refused 3\n")]:
+            done = subprocess.run([program()], input=data, capture_output=True, check=False)
+            self.assertEqual((done.returncode, done.stdout.decode()), (0, text))
 
     def test_no_schedule(self):
         """Refusal 11 with what can be said of it."""

@@ -39,7 +39,7 @@ same case. A file that would be refused is not shown: the fault says why.
 
 CHECK = """\
 The list's file begins with the line hour,output and has a line for each hour from 1, outputs in MW; the table that
-best --csv prints is one too. Exit status 0: the list passes; 1: it breaks a rule; 2: refused or bad input.
+best --csv prints is one too.
 """
 
 
@@ -62,10 +62,12 @@ def make(arguments):
         raise Refused(files, number, [_placed(unit, arguments.prices, *fault) for fault in faults])
     if reader() != "library":
         say(BY[reader()])
-    if arguments.output is None:
-        return Answer(data)
-    write(arguments.output, data)
-    return Answer(b"")
+    if arguments.output is not None:
+        write(arguments.output, data)
+        return Answer(b"")
+    if sys.stdout is not None and sys.stdout.isatty():
+        raise Fault("standard output", None, None, "a case is bytes, not text for a terminal; name a file with -o")
+    return Answer(data)
 
 
 def _placed(unit, prices, field, what):
@@ -181,20 +183,36 @@ def main():
     """Prints the answer and returns the exit status. A reader that has gone is no fault: the status is then that of
     a program that the closed pipe ends."""
     try:
-        answer = answered(sys.argv[1:])
-        if answer.data:
-            sys.stdout.buffer.write(answer.data)
-            sys.stdout.buffer.flush()
-        return answer.status
+        return _run()
+    except KeyboardInterrupt:
+        return 130
     except BrokenPipeError:
         _give_up()
         return 141
-    except KeyboardInterrupt:
-        return 130
-    except (AttributeError, OSError) as error:
-        say(f"standard output: {getattr(error, 'strerror', None) or 'it is closed'}")
+    except OSError as error:
+        say(f"standard output: {error.strerror}")
         _give_up()
         return 2
+
+
+def _run():
+    try:
+        answer = answered(sys.argv[1:])
+    except SystemExit:
+        _print(b"")
+        raise
+    _print(answer.data)
+    return answer.status
+
+
+def _print(data):
+    """Prints bytes after what the help or the version has printed."""
+    if sys.stdout is not None:
+        sys.stdout.flush()
+        sys.stdout.buffer.write(data)
+        sys.stdout.buffer.flush()
+    elif data:
+        raise OSError(None, "it is closed")
 
 
 def _give_up():

@@ -28,7 +28,7 @@ class Refused(Fault):
 
 def named(file):
     """The name of a file in a message; `-` is the standard input."""
-    return "standard input" if str(file) == "-" else str(file)
+    return {"-": "standard input", "": "''"}.get(str(file), str(file))
 
 
 def quoted(cell):

@@ -41,33 +41,42 @@ def write(file, data):
     if str(file) == "-":
         raise Fault("output", None, None, "'-' is no file to write; name one")
     try:
-        place = os.path.realpath(file)
-        kind = os.stat(file).st_mode if os.path.exists(file) else None
-        if kind is not None and not stat.S_ISREG(kind):
+        mode = _mode(file)
+        if mode is None or stat.S_ISREG(mode):
+            _replace(os.path.realpath(file), data, mode)
+        else:
             with open(file, "wb") as opened:
                 opened.write(data)
-        else:
-            _replace(place, data, kind)
     except (OSError, ValueError) as error:
         raise Fault(file, None, None, _reason(error)) from None
 
 
-def _replace(place, data, kind):
-    """Writes a file beside the place and gives it the place's name; `kind` is the mode of what stands there."""
-    if kind is not None and not os.access(place, os.W_OK):
-        raise PermissionError(None, "Permission denied")
-    beside = f"{place}.{os.getpid()}.part"
+def _mode(file):
+    """The mode of what stands at a place, None where nothing does."""
     try:
-        with open(beside, "xb") as opened:
+        return os.stat(file).st_mode
+    except FileNotFoundError:
+        if not os.path.basename(file):
+            raise
+        return None
+
+
+def _replace(place, data, mode):
+    """Writes a file beside the place and gives it the place's name, and the mode of what stands there."""
+    if mode is not None and not os.access(place, os.W_OK):
+        raise PermissionError(None, "Permission denied")
+    beside = os.path.join(os.path.dirname(place), f".case-{os.getpid()}.part")
+    opened = open(beside, "xb")
+    try:
+        with opened:
             opened.write(data)
             opened.flush()
             os.fsync(opened.fileno())
-        if kind is not None:
-            os.chmod(beside, stat.S_IMODE(kind))
+        if mode is not None:
+            os.chmod(beside, stat.S_IMODE(mode))
         os.replace(beside, place)
-    except OSError:
-        if os.path.exists(beside):
-            os.remove(beside)
+    except BaseException:
+        os.remove(beside)
         raise
 
 

@@ -34,9 +34,9 @@ def bytes_of(case):
 
 def case_of(data):
     """Number 0, the case of a file, and no words; or the refusal's number, None, and a line for each fault."""
-    faults = list(_pairs_at_fault(data))
-    if faults:
-        return 1, None, faults
+    fault = _pair_at_fault(data)
+    if fault:
+        return 1, None, [fault]
     pairs = _PAIRS.unpack_from(data)
     faults = list(_lengths_at_fault(pairs))
     if faults:
@@ -57,18 +57,17 @@ def _fields(sections):
     return case
 
 
-def _pairs_at_fault(data):
+def _pair_at_fault(data):
+    """What is wrong with the first pair that is not as laid down; None where each is."""
     if len(data) < _PAIRS.size:
-        yield f"bytes: {len(data)}, at least {_PAIRS.size} needed"
-        return
+        return f"bytes: {len(data)}, at least {_PAIRS.size} needed"
     pairs, end = _PAIRS.unpack_from(data), _PAIRS.size
     for i, (name, _, _) in enumerate(_SECTIONS):
         offset, length = pairs[2 * i : 2 * i + 2]
         if offset != end:
-            yield f"byte {4 * i}: offset of {name}: {offset}, {end} needed"
+            return f"byte {4 * i}: offset of {name}: {offset}, {end} needed"
         end = offset + length
-    if end != len(data):
-        yield f"byte 12: end of hours: {end}, and the file ends at {len(data)}"
+    return None if end == len(data) else f"byte 12: end of hours: {end}, and the file ends at {len(data)}"
 
 
 def _lengths_at_fault(pairs):

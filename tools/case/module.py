@@ -9,4 +9,5 @@ if _BESIDE.is_dir():
 try:
     import giqapsun
 except ImportError:
-    sys.exit("case: the Python module giqapsun is not there: install it with `pip install bindings/python`")
+    sys.stderr.write("case: the Python module giqapsun is not there: install it with `pip install bindings/python`\n")
+    sys.exit(2)
