@@ -96,9 +96,8 @@ class BestFaults(ToolTest):
         self.faulty("refused 77\n", "d.case: refused 77: not in the refusal list")
         text = "d.case: refused 8: an order byte above 2"
         self.faulty("refused 8\n", text, FAKE_BEST_DAY_STATUS="1")
-        self.faulty(
-            "refused 8\n", f"{text}\norders: 3 at hour 2, 0 (free), 1 (on) or 2 (off) allowed", file_of(orders=[0, 3, 0])
-        )
+        said = f"{text}\norders: 3 at hour 2, 0 (free), 1 (on) or 2 (off) allowed"
+        self.faulty("refused 8\n", said, file_of(orders=[0, 3, 0]))
 
     def test_answers_that_are_none(self):
         day = "is no line of a best day"

@@ -6,11 +6,11 @@ import json
 import random
 from dataclasses import replace
 
-from tool import CASE_7, SOURCE, SOURCE_LIST, ToolTest, giqapsun, list_text, small
+from tool import CASE_7, SOURCE, SOURCE_LIST, ToolTest, giqapsun, list_text, small, texts
 
 from rules import Marks, breach, sides
 
-RULES = [1, 2, 3, 4, 5, 6, 7, 8, 9, 10, 11, 12, 21, 22, 23]
+RULES = list(texts("rules.tsv"))
 
 
 class Checked(ToolTest):
@@ -37,6 +37,13 @@ hour 11: from 112 to 172 MW is up 60; RU allows 50
 read by the proved library
 """
         self.assertEqual(self.verdict(data, SOURCE_LIST), (1, text))
+
+    def test_words_are_those_of_the_table(self):
+        rules = texts("rules.tsv")
+        self.assertEqual(giqapsun.RULES, rules)
+        for case, outputs, rule in [(small(initial=2), [4] * 3, 5), (small(initial=4), [2] * 3, 6), (small(), [5] * 3, 3)]:
+            status, text = self.verdict(giqapsun.write(case), outputs)
+            self.assertEqual((status, text.splitlines()[0]), (1, f"breaks rule {rule} at hour 1: {rules[rule]}"))
 
     def test_for_programs(self):
         passed = {
@@ -126,7 +133,8 @@ class Words(ToolTest):
         self.said(small(initial=4), [2, 2, 2], 6, "hour 1: from 4 to 2 MW is down 2; RD allows 1")
 
     def test_sequences(self):
-        level = small(capacity=3, minimum=3, rampdown=2, rise=[3], fall=[3, 2], initial=0, prices=[5] * 4, orders=[0] * 4)
+        four = {"prices": [5] * 4, "orders": [0] * 4}
+        level = small(capacity=3, minimum=3, rampdown=2, rise=[3], fall=[3, 2], initial=0, **four)
         self.said(
             level, [0, 0, 1, 0], 9, "hour 2: off-line; the stop at hour 4 needs stage 1 of the shut-down here, 3 MW"
         )
@@ -134,7 +142,7 @@ class Words(ToolTest):
             replace(level, rise=[1, 3]), [1, 3, 0, 0], 10,
             "hour 1: the start here and the stop at hour 3 are 2 hours apart; UD 2 and DD 2 need 3",
         )
-        late = small(minimum=3, rise=[1, 2, 3], fall=[3, 1], elapsed=3, prices=[5] * 4, orders=[0] * 4)
+        late = small(minimum=3, rise=[1, 2, 3], fall=[3, 1], elapsed=3, **four)
         self.said(
             replace(late, initial=3), [1, 0, 1, 0], 10,
             "hour 1: the stops at hours 2, 4 lie within 4 hours; one may, for UD 3 and DD 2",
@@ -158,8 +166,9 @@ class Words(ToolTest):
             replace(steady, minup=3), [2, 2, 0, 0], 21,
             "hour 3: stop after 2 hours on-line; the minimum up time is 3",
         )
-        self.said(replace(steady, orders=[0, 1, 0, 0]), [0, 0, 0, 0], 23, "hour 2: ordered on-line, and the list has 0 MW")
-        self.said(replace(steady, orders=[0, 2, 0, 0]), [2, 2, 2, 2], 23, "hour 2: ordered off-line, and the list has 2 MW")
+        on, off = replace(steady, orders=[0, 1, 0, 0]), replace(steady, orders=[0, 2, 0, 0])
+        self.said(on, [0, 0, 0, 0], 23, "hour 2: ordered on-line, and the list has 0 MW")
+        self.said(off, [2, 2, 2, 2], 23, "hour 2: ordered off-line, and the list has 2 MW")
 
     def test_no_plain_words(self):
         """Where no plain words fit, the inequality itself with its numbers."""
@@ -216,7 +225,8 @@ def _random(chance):
     )
     if chance.random() < 0.5:
         return case, [chance.choice((0, 0, *rise, number(0, capacity + 1))) for _ in range(hours)]
-    outputs = list(giqapsun.best(replace(case, orders=[0] * hours, prices=[number(0, 40) for _ in range(hours)])).outputs)
+    free = replace(case, orders=[0] * hours, prices=[number(0, 40) for _ in range(hours)])
+    outputs = giqapsun.best(free).outputs
     if chance.random() < 0.8:
         outputs[number(0, hours - 1)] = number(0, capacity + 1)
     return case, outputs

@@ -1,8 +1,9 @@
 """case make: bytes of the stored cases and of the known days, and every fault of a unit or of prices."""
 
 import struct
+from dataclasses import fields
 
-from tool import CASES, PRICES, ToolTest, known_days, unit
+from tool import CASES, PRICES, UNIT, ToolTest, giqapsun, known_days, unit
 
 # the order bytes
 ORDERS = {"free": 0, "on": 1, "off": 2}
@@ -15,6 +16,10 @@ class Made(ToolTest):
         for name in ("source", "case7"):
             made = self.made((CASES / f"{name}.toml").read_bytes(), (CASES / f"{name}.csv").read_bytes())
             self.assertEqual(made, (CASES / f"{name}.case").read_bytes())
+
+    def test_keys_are_the_names_of_the_record(self):
+        keys = {key.removesuffix("_mills") for key in UNIT}
+        self.assertEqual(keys, {field.name for field in fields(giqapsun.Case)} - {"prices", "orders"})
 
     def test_case_7_bytes(self):
         expected = struct.pack(

@@ -95,6 +95,11 @@ class NotBuilt(ToolTest):
         text = self.answered("show", "d.case").decode().removesuffix("read by the proved library\n")
         self.assertEqual(printed.decode(), text + "read by this tool itself: the library is not built\n")
         self.assertIn(b'"read_by": "tool"', self.run_copy("show", "d.case", "--json")[1])
+        note = "case: read by this tool itself: the library is not built\n"
+        self.assertEqual(
+            self.run_copy("show", "d.case", "--csv"), (0, self.answered("show", "d.case", "--csv"), note)
+        )
+        self.assertEqual(self.run_copy("show", "d.case", "--toml", "u.toml"), (0, b"", note))
 
     def test_make(self):
         note = "case: read by this tool itself: the library is not built\n"

@@ -60,8 +60,7 @@ def make(arguments):
     if number:
         files = f"{named(arguments.unit)}, {named(arguments.prices)}"
         raise Refused(files, number, [_placed(unit, arguments.prices, *fault) for fault in faults])
-    if reader() != "library":
-        say(BY[reader()])
+    note(reader())
     if arguments.output is not None:
         write(arguments.output, data)
         return Answer(b"")
@@ -79,7 +78,8 @@ def show(arguments):
     """A case in words, or the files that it is made of."""
     reading = read_case(arguments.file, contents(arguments.file))
     if arguments.toml is None and arguments.prices is None:
-        return _formed(arguments, reading, shown_text, shown_json, shown_csv)
+        return _formed(arguments, reading, reading, shown_text, shown_json, shown_csv)
+    note(reading.by)
     if arguments.toml is not None:
         write(arguments.toml, unit_text(reading.case).encode())
     if arguments.prices is not None:
@@ -92,19 +92,21 @@ def best(arguments):
     day = best_day(arguments.file, contents(arguments.file))
     if arguments.plot is not None:
         write(arguments.plot, svg(day, os.path.basename(named(arguments.file))).encode())
-    return _formed(arguments, day, best_text, best_json, best_csv)
+    return _formed(arguments, day, day.reading, best_text, best_json, best_csv)
 
 
 def check(arguments):
     """The verdict on a list."""
     reading = read_case(arguments.file, contents(arguments.file))
     verdict = checked(reading, arguments.list, read_list(arguments.list))
-    answer = _formed(arguments, verdict, checked_text, checked_json, checked_csv)
+    answer = _formed(arguments, verdict, reading, checked_text, checked_json, checked_csv)
     return Answer(answer.data, verdict.status)
 
 
-def _formed(arguments, answer, text, json, csv):
-    """An answer in the form that is asked for."""
+def _formed(arguments, answer, reading, text, json, csv):
+    """An answer in the form that is asked for; CSV has no place for who has read the case, so it is noted."""
+    if arguments.form == "csv":
+        note(reading.by)
     return Answer({"text": text, "json": json, "csv": csv}[arguments.form](answer).encode("utf-8", "replace"))
 
 
@@ -163,6 +165,12 @@ def say(message):
         sys.stderr.flush()
     except (AttributeError, OSError):
         pass
+
+
+def note(by):
+    """Says who has read a case if it was not the library."""
+    if by != "library":
+        say(BY[by])
 
 
 def answered(words):

@@ -6,7 +6,7 @@ library where it is not built, and says which bytes of a refused file are at fau
 
 import struct
 
-from limits import STAGES, HOURS, outside, refusal
+from limits import outside, refusal
 from module import giqapsun
 from words import UNIT
 
@@ -14,7 +14,9 @@ _PAIRS = struct.Struct("<8H")
 _UNIT = struct.Struct("<6H4I2H")
 
 # the sections, with the bytes of an entry, and the most entries there may be
-_SECTIONS = (("unit", _UNIT.size, 1), ("rise", 2, STAGES), ("fall", 2, STAGES), ("hours", 3, HOURS))
+_SECTIONS = (
+    ("unit", _UNIT.size, 1), ("rise", 2, giqapsun.STAGES), ("fall", 2, giqapsun.STAGES), ("hours", 3, giqapsun.HOURS),
+)
 
 
 def bytes_of(case):
@@ -43,7 +45,11 @@ def case_of(data):
         return 2, None, faults
     case = _fields([data[offset : offset + length] for offset, length in zip(pairs[::2], pairs[1::2])])
     number, faults = refusal(case)
-    return number, None if number else case, [f"{field}: {what}" for field, what in faults]
+    return number, None if number else case, _lines(faults)
+
+
+def _lines(faults):
+    return [f"{field}: {what}" for field, what in faults]
 
 
 def _fields(sections):
@@ -78,4 +84,4 @@ def _lengths_at_fault(pairs):
         elif length % width:
             yield f"byte {4 * i + 2}: length of {name}: {length}, {width} bytes for each entry needed"
         else:
-            yield from (f"{name}: {what}" for what in outside(length // width, 1, most))
+            yield from _lines(outside(name, length // width, 1, most))

@@ -4,10 +4,10 @@ The number that counts is the library's; these words explain it. Where the libra
 in for it.
 """
 
-from words import COSTS, ORDERS
+from module import giqapsun
 from money import dollars_of_mills
+from words import COSTS, ORDERS
 
-STAGES, HOURS = 8, 48
 OUTPUT, TIME, ELAPSED = 400, 8, 10_000
 VARIABLE, CHARGE = 1_000_000, 100_000_000
 
@@ -23,29 +23,29 @@ def refusal(case):
     return 0, []
 
 
-def outside(value, least, most):
-    """What is wrong with a value that is not from least to most."""
+def outside(field, value, least, most):
+    """The fault of a field whose value is not from least to most; none where it is."""
     if not least <= value <= most:
-        yield f"{value:,}, from {least:,} to {most:,} allowed"
+        yield field, f"{value:,}, from {least:,} to {most:,} allowed"
 
 
 def _counts(case):
-    for name, entries, most in (("rise", case.rise, STAGES), ("fall", case.fall, STAGES), ("hours", case.prices, HOURS)):
-        for what in outside(len(entries), 1, most):
-            yield name, what
+    yield from outside("rise", len(case.rise), 1, giqapsun.STAGES)
+    yield from outside("fall", len(case.fall), 1, giqapsun.STAGES)
+    yield from outside("hours", len(case.prices), 1, giqapsun.HOURS)
 
 
 def _outputs(case):
-    for what in outside(case.capacity, 1, OUTPUT):
-        yield "capacity", what
+    yield from outside("capacity", case.capacity, 1, OUTPUT)
     if not 1 <= case.minimum <= case.capacity:
         yield "minimum", f"{case.minimum:,}, from 1 to the capacity {case.capacity:,} allowed"
 
 
 def _ramps(case):
-    for name, most in (("rampup", OUTPUT), ("rampdown", OUTPUT), ("minup", TIME), ("mindown", TIME)):
-        for what in outside(getattr(case, name), 1, most):
-            yield name, what
+    yield from outside("rampup", case.rampup, 1, OUTPUT)
+    yield from outside("rampdown", case.rampdown, 1, OUTPUT)
+    yield from outside("minup", case.minup, 1, TIME)
+    yield from outside("mindown", case.mindown, 1, TIME)
 
 
 def _costs(case):
@@ -73,8 +73,7 @@ def _trajectories(case):
 
 
 def _opening(case):
-    for what in outside(case.elapsed, 1, ELAPSED):
-        yield "elapsed", what
+    yield from outside("elapsed", case.elapsed, 1, ELAPSED)
     if case.initial != 0 and not case.minimum <= case.initial <= case.capacity:
         yield "initial", f"{case.initial:,}, 0 or from {case.minimum} to {case.capacity} allowed"
     elif case.initial > 0 and 1 <= case.elapsed < len(case.rise):

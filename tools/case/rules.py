@@ -88,7 +88,8 @@ def _lower(marks, rule, k):
     """(1) and (2): the least output."""
     low, sequences = marks.case.minimum, len(marks.starts(k)) + len(marks.stops(k))
     asked = ("PU", marks.start_output(k)) if rule == 1 else ("PD", marks.stop_output(k))
-    return [("minimum × v", low * marks.v(k)), asked], [("output", marks.p(k)), ("minimum × sequences", low * sequences)]
+    allowed = [("output", marks.p(k)), ("minimum × sequences", low * sequences)]
+    return [("minimum × v", low * marks.v(k)), asked], allowed
 
 
 def _upper(marks, rule, k):

@@ -1,8 +1,7 @@
 """A case in words: every field with its unit, money in dollars too; and as JSON and CSV."""
 
-from dataclasses import asdict, fields
+from dataclasses import asdict
 
-from module import giqapsun
 from money import dollars_of_mills
 from reading import BY
 from tables import csv_of, json_of
@@ -28,9 +27,9 @@ def shown_json(reading):
 def shown_csv(reading):
     """The case as a table: a row for each number, with its place in a list, counted from 1."""
     rows = []
-    for name in (field.name for field in fields(giqapsun.Case)):
-        value = getattr(reading.case, name)
-        rows += [(name, i, entry) for i, entry in enumerate(value, 1)] if isinstance(value, list) else [(name, None, value)]
+    for name, value in asdict(reading.case).items():
+        entries = enumerate(value, 1) if isinstance(value, list) else [("", value)]
+        rows += [(name, i, entry) for i, entry in entries]
     return csv_of(("field", "entry", "value"), rows)
 
 
