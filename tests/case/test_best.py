@@ -42,7 +42,7 @@ class Answered(ToolTest):
         return "\n".join(lines) + "\n"
 
     def test_case_7(self):
-        found = f"read by the proved library; found by the program {FAKE}\n"
+        found = f"read by the library; found by the program {FAKE}\n"
         self.assertEqual(self.table(CASE_7, CASE_7_ANSWER), CASE_7_TABLE + found)
 
     def test_source_day(self):
@@ -141,9 +141,9 @@ class Found(ToolTest):
 
     def both(self, data):
         """The answer of the program and that of the library, without the line that says who has found it."""
-        for runs, found in (program(), f"the program {program()}"), ("", "the proved library"):
+        for runs, found in (program(), f"the program {program()}"), ("", "the library"):
             status, text = self.best(data, runs)
-            line = f"read by the proved library; found by {found}\n"
+            line = f"read by the library; found by {found}\n"
             self.assertEqual(text.endswith(line), status == 0)
             yield status, text.removesuffix(line)
 

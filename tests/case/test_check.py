@@ -24,9 +24,9 @@ class Checked(ToolTest):
         return status, printed.decode()
 
     def test_passes(self):
-        text = "passes: earns $16,773.4810 (33546962 half-mills)\nread by the proved library\n"
+        text = "passes: earns $16,773.4810 (33546962 half-mills)\nread by the library\n"
         self.assertEqual(self.verdict(SOURCE, SOURCE_LIST), (0, text))
-        text = "passes: earns $-0.0265 (-53 half-mills)\nread by the proved library\n"
+        text = "passes: earns $-0.0265 (-53 half-mills)\nread by the library\n"
         self.assertEqual(self.verdict(CASE_7, [2, 1, 0]), (0, text))
 
     def test_breaks(self):
@@ -34,15 +34,15 @@ class Checked(ToolTest):
         text = """\
 breaks rule 5 at hour 11: ramp-up limit RU
 hour 11: from 112 to 172 MW is up 60; RU allows 50
-read by the proved library
+read by the library
 """
         self.assertEqual(self.verdict(data, SOURCE_LIST), (1, text))
 
     def test_words_are_those_of_the_table(self):
         rules = texts("rules.tsv")
         self.assertEqual(giqapsun.RULES, rules)
-        for case, outputs, rule in [(small(initial=2), [4] * 3, 5), (small(initial=4), [2] * 3, 6), (small(), [5] * 3, 3)]:
-            status, text = self.verdict(giqapsun.write(case), outputs)
+        for initial, output, rule in [(2, 4, 5), (4, 2, 6), (3, 5, 3)]:
+            status, text = self.verdict(giqapsun.write(small(initial=initial)), [output] * 3)
             self.assertEqual((status, text.splitlines()[0]), (1, f"breaks rule {rule} at hour 1: {rules[rule]}"))
 
     def test_for_programs(self):

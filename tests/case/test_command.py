@@ -34,7 +34,7 @@ class Words(ToolTest):
     def test_mistakes(self):
         for words in (
             [], ["make"], ["make", "u.toml"], ["best"], ["draw", "d.case"], ["check", "d.case"], ["check", "-", "-"],
-            ["make", "-", "-"], ["show", "d.case", "--json", "--csv"],
+            ["make", "-", "-"], ["show", "d.case", "--json", "--csv"], ["show", "d.case", "--json", "--toml", "u.toml"],
         ):
             status, printed, message = self.run_tool(*words)
             self.assertEqual((status, printed), (2, b""))

@@ -92,7 +92,7 @@ class NotBuilt(ToolTest):
         self.file("d.case", CASE_7)
         status, printed, message = self.run_copy("show", "d.case")
         self.assertEqual((status, message), (0, ""))
-        text = self.answered("show", "d.case").decode().removesuffix("read by the proved library\n")
+        text = self.answered("show", "d.case").decode().removesuffix("read by the library\n")
         self.assertEqual(printed.decode(), text + "read by this tool itself: the library is not built\n")
         self.assertIn(b'"read_by": "tool"', self.run_copy("show", "d.case", "--json")[1])
         note = "case: read by this tool itself: the library is not built\n"

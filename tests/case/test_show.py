@@ -30,7 +30,7 @@ hour  price (mills/MWh)  price ($/MWh)  order
    2                  5          0.005  free
    3                  5          0.005  free
 
-read by the proved library
+read by the library
 """
 
 

@@ -56,7 +56,8 @@ def best_day(file, data):
     try:
         plan = giqapsun.best(reading.case)
     except giqapsun.Refusal as refused:
-        raise Refused(file, refused.number, contradiction(reading.case)) from None
+        details = contradiction(reading.case) if refused.number == 11 else ()
+        raise Refused(file, refused.number, details) from None
     return _day(reading, plan.outputs, plan.profit, "library")
 
 
@@ -163,7 +164,7 @@ def best_text(day):
     energy, profit = megawatt_hours(sum(day.energies)), dollars_of_half_mills(day.profit)
     lines.append(f"total{'':35}  {energy:>12}  {profit:>14}")
     lines.append(f"profit {day.profit} half-mills")
-    found = "the proved library" if day.found_by == "library" else f"the program {day.found_by}"
+    found = "the library" if day.found_by == "library" else f"the program {day.found_by}"
     lines.append(f"{BY[day.reading.by]}; found by {found}")
     return "\n".join(lines) + "\n"
 

@@ -137,6 +137,8 @@ def parsed(words):
     inputs.append(arguments.prices if arguments.run is make else None)
     if inputs.count("-") > 1:
         parser.error("standard input can be read as one file only")
+    if arguments.run is show and arguments.form != "text" and (arguments.toml or arguments.prices):
+        parser.error("--toml and --prices write files; --json and --csv print")
     return arguments
 
 

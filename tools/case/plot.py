@@ -209,7 +209,7 @@ def _hovers(day):
             f"$/MWh, earns {dollars_of_half_mills(earned)} $"
         )
         rect = _rect(panel.x(k - 1), panel.top, panel.x(1) - panel.x(0), panel.bottom - panel.top, "hour")
-        yield f"<g>{rect}<title>{title}</title></g>"
+        yield f"<g><title>{title}</title>{rect}</g>"
 
 
 def _hatches():

@@ -3,14 +3,14 @@ built."""
 
 from dataclasses import dataclass
 
-from faults import Refused
+from faults import Fault, Refused
 from layout import bytes_of, case_of
 from limits import refusal
 from module import giqapsun
 
 # who has read a case
 BY = {
-    "library": "read by the proved library",
+    "library": "read by the library",
     "tool": "read by this tool itself: the library is not built",
 }
 
@@ -61,7 +61,7 @@ def file_of(case):
         return number, b"", faults if number == own else []
     data = giqapsun.write(case) if built() else bytes_of(case)
     if read_case("the case", data).case != case:
-        raise AssertionError("a case does not read back")
+        raise Fault("the case", None, None, "the file that was written does not read back")
     return 0, data, []
 
 

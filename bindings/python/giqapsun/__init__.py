@@ -16,15 +16,16 @@ The module loads libgiqapsun.so at its first call: the one that GIQAPSUN_LIBRARY
 this package, or the one that bindings/build.sh makes in target/bindings of the repository.
 """
 
-import ctypes
-import operator
 import sys
-from collections.abc import Iterable
-from dataclasses import dataclass, field, fields
-from typing import SupportsIndex
 
 if sys.version_info < (3, 11):
     raise ImportError("giqapsun: Python 3.11 or later is needed")
+
+import ctypes
+import operator
+from collections.abc import Iterable
+from dataclasses import dataclass, field, fields
+from typing import SupportsIndex
 
 from ._boundary import FILE_MOST, HOURS, STAGES, WORK, LibraryError, calls, library_file
 from ._boundary import Case as _Case
