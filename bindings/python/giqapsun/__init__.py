@@ -31,9 +31,6 @@ from ._boundary import FILE_MOST, HOURS, STAGES, WORK, LibraryError, calls, libr
 from ._boundary import Case as _Case
 from ._texts import REFUSALS, RULES
 
-# structs that only the comparison of layouts looks at, tests/header
-from ._boundary import Plan as _Plan, Reading as _Reading, Verdict as _Verdict, Written as _Written
-
 __version__ = "1.0.0"
 
 __all__ = [
