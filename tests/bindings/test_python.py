@@ -266,7 +266,7 @@ class Library(unittest.TestCase):
         self.assertEqual(
             self.complaint(GIQAPSUN_LIBRARY="stub.so"),
             "giqapsun.LibraryError: stub.so has no giqapsun_read_1: "
-            "it is no library of layout 1, the one that this module has",
+            "it is no library of layout 1; bindings/build.sh builds one",
         )
         self.assertEqual(
             self.complaint(GIQAPSUN_LIBRARY="none.so"),

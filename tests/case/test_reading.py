@@ -139,7 +139,7 @@ class NotBuilt(ToolTest):
         self.file("text.so", "no library\n")
         for name, what in [
             ("none.so", "the library none.so cannot be loaded: no such file\n"),
-            ("stub.so", "stub.so has no giqapsun_read_1: it is no library of layout 1, the one that this module has\n"),
+            ("stub.so", "stub.so has no giqapsun_read_1: it is no library of layout 1; bindings/build.sh builds one\n"),
         ]:
             answer = self.run_copy("show", "d.case", GIQAPSUN_LIBRARY=name)
             self.assertEqual(answer, (2, b"", f"case: {what}"))

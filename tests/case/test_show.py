@@ -23,7 +23,7 @@ initial             3 MW            output p(0) before hour 1
 elapsed             2 hours         h, hours on-line before hour 1
 rise             1, 2 MW            start-up trajectory PU, UD 2
 fall             2, 1 MW            shut-down trajectory PD, DD 2
-hours               3 T
+hours               3               T, the hours of the day
 
 hour  price (mills/MWh)  price ($/MWh)  order
    1                  5          0.005  free

@@ -118,7 +118,7 @@ class _Calls:
             try:
                 call = getattr(library, symbol)
             except AttributeError:
-                what = f"it is no library of layout {LAYOUT}, the one that this module has"
+                what = f"it is no library of layout {LAYOUT}; bindings/build.sh builds one"
                 raise LibraryError(f"{file} has no {symbol}: {what}") from None
             call.restype, call.argtypes = answer, arguments
             setattr(self, name, call)
