@@ -123,8 +123,6 @@ class Outputs(ToolTest):
         (self.folder / "folder").mkdir()
         self.at_fault("folder: Is a directory", *MAKE, "-o", "folder")
         self.at_fault("none/d.case: No such file or directory", *MAKE, "-o", "none/d.case")
-        self.at_fault("/dev/full: No space left on device", *MAKE, "-o", "/dev/full")
-        self.assertTrue(stat.S_ISCHR(os.stat("/dev/full").st_mode))
         self.at_fault("output: '-' is no file to write; name one", *MAKE, "-o", "-")
         self.at_fault("'': No such file or directory", *MAKE, "-o", "")
         self.at_fault("none/: No such file or directory", *MAKE, "-o", "none/")
@@ -140,6 +138,18 @@ class Outputs(ToolTest):
         os.close(terminal)
         message = b"case: standard output: a case is bytes, not text for a terminal; name a file with -o\n"
         self.assertEqual((done.returncode, done.stderr), (2, message))
+
+    def test_pipe_and_device(self):
+        """A pipe or a device is written as it is, and stays one. The pipe goes first: a tool that puts a file in its
+        stead never gets to the device."""
+        pipe = self.folder / "pipe"
+        os.mkfifo(pipe)
+        read = os.open(pipe, os.O_RDONLY | os.O_NONBLOCK)
+        self.answered(*MAKE, "-o", "pipe")
+        self.assertEqual(os.read(read, 1000), CASE_7)
+        os.close(read)
+        self.assertTrue(pipe.is_fifo())
+        self.at_fault("/dev/full: No space left on device", *MAKE, "-o", "/dev/full")
 
     def test_refused(self):
         """A case that is refused leaves what stood there."""
