@@ -8,7 +8,7 @@ from dataclasses import replace
 
 from tool import CASE_7, SOURCE, SOURCE_LIST, ToolTest, giqapsun, list_text, small, texts
 
-from rules import Marks, breach, sides
+from rules import Marks, breach, kept
 
 RULES = list(texts("rules.tsv"))
 
@@ -185,6 +185,12 @@ class Words(ToolTest):
             "at most PD + capacity × v = 4 + 5, which is 9, is allowed",
         )
 
+    def test_breach_that_is_none(self):
+        """A verdict that the numbers do not bear out is not explained away."""
+        for hour, rule in [(1, 5), (2, 99), (4, 23), (0, 2)]:
+            words = f"hour {hour}: rule {rule} is named, and this tool finds no numbers that break it"
+            self.assertEqual(breach(small(), [3, 3, 3], hour, rule), words)
+
     def test_numbers_are_those_of_the_verdict(self):
         """On random lists: the rule that the library names is broken by the numbers that the words are made of, and
         by those numbers no earlier hour and no lower rule is."""
@@ -196,7 +202,7 @@ class Words(ToolTest):
             marks = Marks(case, outputs)
             broken = [
                 (k, rule) for k in range(len(outputs) + 1) for rule in (RULES if k else (2, 4))
-                if sides(marks, rule, k)[0] > sides(marks, rule, k)[1]
+                if not kept(marks, rule, k)
             ]
             if isinstance(verdict, giqapsun.Passes):
                 self.assertEqual(broken, [])
@@ -204,6 +210,7 @@ class Words(ToolTest):
                 self.assertEqual(broken[0], (verdict.hour, verdict.rule))
                 words = breach(case, outputs, *broken[0])
                 self.assertTrue(words.startswith(f"hour {verdict.hour}: "))
+                self.assertNotIn("no numbers", words)
                 seen[verdict.rule] = seen.get(verdict.rule, 0) + 1
         # 7, 8 and 12 are never named: docs/DECISIONS.md
         self.assertEqual(sorted(set(RULES) - set(seen)), [7, 8, 12])

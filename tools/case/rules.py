@@ -56,16 +56,22 @@ class Marks:
         return self.case.elapsed + k - 1 if latest is None else k - latest
 
 
-def sides(marks, rule, k):
-    """The two sums of a rule's inequality at hour k; it is kept if the first is at most the second."""
-    return tuple(sum(number for _, number in side) for side in _RULES[rule][0](marks, rule, k))
+def kept(marks, rule, k):
+    """Whether the rule's inequality holds at hour k: the first sum is at most the second."""
+    first, second = _sums(marks, rule, k)
+    return first <= second
+
+
+def _sums(marks, rule, k):
+    return [sum(number for _, number in side) for side in _RULES[rule][0](marks, rule, k)]
 
 
 def breach(case, outputs, hour, rule):
-    """What breaks the rule at the hour, in words with numbers."""
+    """What breaks the rule at the hour, in words with numbers; a breach that these numbers do not show is said so."""
     marks = Marks(case, outputs)
-    plain = _RULES[rule][1](marks, rule, hour) if rule in _RULES else f"breaks rule {rule}"
-    return f"hour {hour}: {plain or _inequality(marks, rule, hour)}"
+    if rule not in _RULES or not 0 <= hour <= len(outputs) or kept(marks, rule, hour):
+        return f"hour {hour}: rule {rule} is named, and this tool finds no numbers that break it"
+    return f"hour {hour}: {_RULES[rule][1](marks, rule, hour) or _inequality(marks, rule, hour)}"
 
 
 def _inequality(marks, rule, k):
@@ -74,7 +80,7 @@ def _inequality(marks, rule, k):
         f"{' + '.join(name for name, _ in side)} = {' + '.join(str(number) for _, number in side)}"
         for side in _RULES[rule][0](marks, rule, k)
     )
-    first, second = sides(marks, rule, k)
+    first, second = _sums(marks, rule, k)
     stops = marks.stops(k)
     overlap = f"the stops at hours {listed(stops)} lie within DD {marks.dd} hours; " if len(stops) > 1 else ""
     return f"{overlap}{left} is {first}; at most {right}, which is {second}, is allowed"
