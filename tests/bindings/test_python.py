@@ -273,6 +273,14 @@ class Library(unittest.TestCase):
             "giqapsun.LibraryError: the library none.so cannot be loaded: no such file",
         )
 
+    def test_older_python(self):
+        """The module and its backend say which Python is needed."""
+        for name, kind in (("giqapsun", "ImportError: "), ("giqapsun_backend", "")):
+            text = f"import sys; sys.version_info = (3, 10); import {name}"
+            paths = f"{ROOT / 'bindings/python'}:{ROOT / 'bindings/python/backend'}"
+            answer = self.run_python(text, PYTHONPATH=paths)
+            self.assertEqual(answer, ("", f"{kind}giqapsun: Python 3.11 or later is needed"))
+
     def test_installed(self):
         """Installed without a network, the package has the library inside and needs nothing else."""
         site = self.folder / "site"

@@ -4,6 +4,11 @@ The library is the one that GIQAPSUN_LIBRARY names, or else target/bindings/libg
 which bindings/build.sh makes. The wheel's bytes depend on nothing but the files in it.
 """
 
+import sys
+
+if sys.version_info < (3, 11):
+    sys.exit("giqapsun: Python 3.11 or later is needed")
+
 import hashlib
 import os
 import re
