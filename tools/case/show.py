@@ -13,7 +13,8 @@ def shown_text(reading):
     case = reading.case
     lines = [_cost(case, name) if name in COSTS else _number(case, name) for name in UNIT]
     lines += [_trajectory(case, name) for name in TRAJECTORIES]
-    lines += [f"{'hours':9} {len(case.prices):>11} {'':13} T, the hours of the day", "", "hour  price (mills/MWh)  price ($/MWh)  order"]
+    lines.append(f"{'hours':9} {len(case.prices):>11} {'':13} T, the hours of the day")
+    lines += ["", "hour  price (mills/MWh)  price ($/MWh)  order"]
     for k, (price, order) in enumerate(zip(case.prices, case.orders), 1):
         lines.append(f"{k:4}  {price:17}  {dollars_of_mills(price):>13}  {ORDERS[order]}")
     return "\n".join([*lines, "", BY[reading.by]]) + "\n"
