@@ -1,0 +1,210 @@
+-- The bytes of each line, how many there are, and the text by what the search answers. Assumes nothing.
+use mathlib.Core.Path.{_≡_, refl, sym, ap, _∙_}
+use mathlib.Core.Bool.{Bool, true, false, true≢false}
+use mathlib.Core.Logic.{⊎-elim}
+use mathlib.Core.List.{List, [], _∷_, _++_}
+use mathlib.Core.Option.{Option, none, some}
+use Prim.Native.Nat.{ℕ, zero, suc, _+_, _*_, _^_, _≤_, _<_}
+use native.Mathlib.Nat.{eq-or-lt-of-le}
+use native.Mathlib.Omega.{arith}
+use native.Mathlib.Numerals.{add-one}
+use borrow.Author.Tests.{lt-ltb, le-ltb, ltb-true}
+use lib.Dec.{ltb}
+use lib.IntN.{ℤ, pos, negsuc, natAbs}
+use lib.ListN.{length, getD, drop, length-append, List·getD-append}
+use lib.Seq.{sets}
+use lib.Signed.{ltZ}
+use Rattle.model.specs.declared.Case.{Case}
+use Rattle.model.specs.declared.HalfMills.{HalfMills}
+use Rattle.model.specs.declared.Outcome.{Outcome}
+use Rattle.model.specs.declared.Outcome.the-variants.{Accepted, Refused}
+use Rattle.model.specs.declared.Plan.{Plan}
+use Rattle.model.specs.declared.Plan.the-variants.{Found, Refused as NotPlanned}
+use Rattle.model.specs.declared.Written.the-variants.{Bytes, Refused as NotWritten}
+use Rattle.model.specs.Limits.{mostHours, mostInput, workLength}
+use Rattle.model.specs.Symbols.{last}
+use Rattle.model.specs.Marks.{p}
+use Rattle.model.specs.Profit.{energy, profitOf}
+use Rattle.model.specs.Best.{bestOf}
+use Rattle.model.specs.Layout.{listed}
+use Rattle.model.specs.Refusals.{refusalOf}
+use Rattle.model.specs.Answers.{planned, readOf, scheduleOf}
+use Rattle.model.specs.Printed.{ascii, decimal, field, sign, profitLine, refusedLine, hourLine, hourLines, dayText}
+use Rattle.model.specs.Printed.{readText, printedOf, printingOf}
+use Rattle.model.proofs.DecimalLaws.{length-decimal}
+use Rattle.model.proofs.KeepsLaws.{kept-length}
+use Rattle.model.proofs.LimitsLaws.{limits-of-refusalOf}
+use Rattle.model.proofs.SetsLaws.{sets-front}
+use Rattle.model.proofs.BestLaws.{best-of-bestOf}
+use Rattle.model.proofs.AcceptedLaws.{read-limits}
+use Rattle.model.proofs.AnswersLaws.{searched}
+
+-- "refused " and "profit "
+abbrev pub refusedWord : List ℕ
+refusedWord = 114 ∷ 101 ∷ 102 ∷ 117 ∷ 115 ∷ 101 ∷ 100 ∷ 32 ∷ []
+
+abbrev pub profitWord : List ℕ
+profitWord = 112 ∷ 114 ∷ 111 ∷ 102 ∷ 105 ∷ 116 ∷ 32 ∷ []
+
+-- each line, byte by byte
+pub refusedLine-is : (n : ℕ) → refusedLine n ≡ refusedWord ++ (decimal n ++ (10 ∷ []))
+unfolding refusedLine field listed
+refusedLine-is n = refl
+
+pub sign-below : (v : ℤ) → ltZ v (pos 0) ≡ true → sign v ≡ 45 ∷ []
+unfolding sign listed
+sign-below (pos n) e = absurd (omega (arith, ltb-true n 0 e))
+sign-below (negsuc n) e = refl
+
+pub sign-above : (v : ℤ) → ltZ v (pos 0) ≡ false → sign v ≡ []
+unfolding sign listed
+sign-above (pos n) e = refl
+sign-above (negsuc n) e = absurd (true≢false e)
+
+pub profitLine-is : (v : ℤ) (m : ℕ) → m ≡ natAbs v
+    → profitLine v ≡ profitWord ++ (sign v ++ (decimal m ++ (10 ∷ [])))
+unfolding profitLine field listed
+profitLine-is v m e = rw e
+
+pub hourLine-is : (k output halves : ℕ)
+    → hourLine k output halves
+    ≡ (decimal k ++ (32 ∷ [])) ++ ((decimal output ++ (32 ∷ [])) ++ (decimal halves ++ (10 ∷ [])))
+unfolding hourLine field listed
+hourLine-is k output halves = refl
+
+-- how long each line is at the most
+pub length-refusedLine : (n : ℕ) → n < 1000 → length (refusedLine n) ≤ 12
+length-refusedLine n h =
+    rw (refusedLine-is n) (simp length-append (omega (arith, length-decimal 2 n (omega arith))))
+
+length-sign : (v : ℤ) → length (sign v) ≤ 1
+unfolding sign listed
+length-sign (pos n) = omega arith
+length-sign (negsuc n) = omega arith
+
+pub length-profitLine : (v : ℤ) → natAbs v < 10 ^ 19 → length (profitLine v) ≤ 28
+length-profitLine v h =
+    rw (profitLine-is v (natAbs v) refl)
+    (simp length-append (omega (arith, length-sign v, length-decimal 18 (natAbs v) h)))
+
+pub length-hourLine : (k output halves : ℕ) → k < 100 → output < 100000 → halves < 1000000
+    → length (hourLine k output halves) ≤ 16
+length-hourLine k output halves hk ho hh =
+    rw (hourLine-is k output halves)
+    (simp length-append
+    (omega (
+      arith,
+      length-decimal 1 k (omega arith),
+      length-decimal 4 output (omega arith),
+      length-decimal 5 halves (omega arith),
+    )))
+
+module _ (c : Case) (l : List ℕ) where
+  pub hourLines-none : hourLines c l 0 ≡ []
+  unfolding hourLines
+  hourLines-none = refl
+
+  pub hourLines-more : (i : ℕ)
+      → hourLines c l (i + 1) ≡ hourLines c l i ++ hourLine (i + 1) (p c l (i + 1)) (p c l (i + 1) + p c l i)
+  unfolding hourLines energy
+  hourLines-more i = rw add-one
+
+  -- fewer hours have no more bytes
+  pub length-hourLines-le : (i n : ℕ) → i ≤ n → length (hourLines c l i) ≤ length (hourLines c l n)
+  unfolding hourLines
+  length-hourLines-le i zero h =
+      let e : i ≡ 0 = omega arith in
+      omega (arith, ap (λ k. length (hourLines c l k)) e)
+  length-hourLines-le i (suc n) h =
+      let line = hourLine (suc n) (p c l (suc n)) (energy c l (suc n)) in
+      ⊎-elim
+      (λ e. omega (arith, ap (λ k. length (hourLines c l k)) e))
+      (λ g. omega (arith, length-append (hourLines c l n) line, length-hourLines-le i n (omega arith)))
+      (eq-or-lt-of-le h)
+
+  pub length-hourLines : ((k : ℕ) → p c l k < 65536) → (n : ℕ) → n < 100 → length (hourLines c l n) ≤ 16 * n
+  unfolding hourLines energy
+  length-hourLines h zero g = omega arith
+  length-hourLines h (suc n) g =
+      omega (
+        arith,
+        length-append (hourLines c l n) (hourLine (suc n) (p c l (suc n)) (p c l (suc n) + p c l n)),
+        length-hourLines h n (omega arith),
+        length-hourLine (suc n) (p c l (suc n)) (p c l (suc n) + p c l n) g (omega (arith, h (suc n)))
+            (omega (arith, h (suc n), h n)),
+      )
+
+  -- what follows the hours of a list is not looked at
+  p-append : (m : List ℕ) (k : ℕ) → k ≤ length l → p c (l ++ m) k ≡ p c l k
+  unfolding p
+  p-append m zero h = refl
+  p-append m (suc k) h = List·getD-append l m 0 k h
+
+  hourLines-append : (m : List ℕ) (n : ℕ) → n ≤ length l → hourLines c (l ++ m) n ≡ hourLines c l n
+  unfolding hourLines energy
+  hourLines-append m zero h = refl
+  hourLines-append m (suc n) h =
+      let less : n ≤ length l = omega arith in
+      rw (hourLines-append m n less, p-append m (suc n) h, p-append m n less)
+
+-- an input that is longer than a case may be, and one that is not
+module _ (input : List ℕ) where
+  pub printedOf-long : mostInput < length input → printedOf input ≡ refusedLine 1
+  unfolding printedOf
+  printedOf-long h = rw (lt-ltb mostInput (length input) h)
+
+  pub printedOf-read : length input ≤ mostInput
+      → printedOf input ≡ readText (readOf input .outcome) (readOf input .case)
+  unfolding printedOf
+  printedOf-read h = rw (le-ltb mostInput (length input) h)
+
+-- what `print` answers and leaves
+module _ (input lent : List ℕ) where
+  pub printingOf-short : length lent < length (printedOf input)
+      → record { answer = NotWritten 10; lent = lent } ≡ printingOf input lent
+  unfolding printingOf
+  printingOf-short h = rw (lt-ltb (length lent) (length (printedOf input)) h)
+
+  pub printingOf-done : length (printedOf input) ≤ length lent
+      → record { answer = Bytes (length (printedOf input)); lent = sets lent 0 (printedOf input) } ≡ printingOf input lent
+  unfolding printingOf
+  printingOf-done h =
+      rw (le-ltb (length lent) (length (printedOf input)) h, sets-front (printedOf input) lent h)
+
+-- the text of a plan for a case, with the outputs as the search leaves them
+unfoldable pub planText : Case → List ℕ → Plan → List ℕ
+planText c outputs (Found m) = profitLine (m .0) ++ hourLines c outputs (last c)
+planText c outputs (NotPlanned n) = refusedLine n
+
+-- it is the text of the file, where the memory is long enough
+module _ (file : List ℕ) (work : List ℤ) (outputs : List ℕ) (long : workLength ≤ length work)
+    (room : mostHours ≤ length outputs) where
+  abbrev c : Case
+  c = readOf file .case
+
+  hours-room : refusalOf c ≡ 0 → last c ≤ length outputs
+  hours-room e = omega (arith, limits-of-refusalOf c e .hours-le)
+
+  planned-text : refusalOf c ≡ 0 → (b : Option (List ℕ)) → bestOf c ≡ b
+      → dayText c b ≡ planText c (planned c work outputs b .outputs) (planned c work outputs b .answer)
+  unfolding dayText planText planned
+  planned-text e none d = refl
+  planned-text e (some l) d =
+      let n = kept-length c l (best-of-bestOf c e d .kept) in
+      ap (λ t. profitLine (profitOf c l) ++ t) (sym (hourLines-append c l (drop (length l) outputs) (last c) (omega arith)))
+
+  pub readText-plan : (o : Outcome) → readOf file .outcome ≡ o
+      → readText o c ≡ planText c (scheduleOf o c work outputs .outputs) (scheduleOf o c work outputs .answer)
+  unfolding readText planText scheduleOf
+  readText-plan (Refused n) e = refl
+  readText-plan Accepted e =
+      let z = read-limits file e in
+      planned-text z (bestOf c) refl
+      ∙ ap (λ s. planText c (s .outputs) (s .answer)) (sym (searched c work outputs z long (hours-room z)))
+
+  -- a list is found only within the hours that a record has room for
+  pub found-hours : (o : Outcome) → readOf file .outcome ≡ o → {m : HalfMills}
+      → scheduleOf o c work outputs .answer ≡ Found m → last c ≤ mostHours
+  unfolding scheduleOf
+  found-hours (Refused n) e f = let u : _≡_ {A = ℕ} 0 1 = cc in absurd (omega arith)
+  found-hours Accepted e f = limits-of-refusalOf c (read-limits file e) .hours-le

@@ -1,0 +1,64 @@
+// The text that the program prints for an input, in lent bytes: model's specs/Printed say what `print` answers and
+// leaves. An input longer than a case may be is refused by 1 in the text itself; a text longer than the lent bytes is
+// refused by 10, and every lent byte stays.
+mod lines;
+mod parts;
+
+ghost use mathlib.Core.Path.{_≡_};
+ghost use Prim.Native.Nat.{_≤_};
+ghost use lib.ListN.{length};
+ghost use Rattle.model.specs.Answers.{readOf};
+ghost use Rattle.model.specs.Printed.{readText, printedOf, printingOf};
+ghost use Rattle.text.specs.Puts.{Puts};
+use model::HOURS;
+use model::Plan;
+use model::WORK;
+use model::Written;
+
+// Bytes of an input that is read as a case, at the most.
+const INPUT: usize = 4096;
+
+// Bytes that no text exceeds: a profit line of 28, and 48 hour lines of 16.
+pub const LONGEST: usize = 796;
+
+// Puts the best day of a file, or its refusal.
+fn put_best(file: &[u8], out: &mut [u8; LONGEST]) -> usize
+    ensures { λ r. ⌜ Puts (now (out .entry)) 0 (readText (readOf (now (file .entry)) .outcome)
+        (readOf (now (file .entry)) .case)) (now (out .exit)) r ⌝ }
+    ensures { λ r. ⌜ r ≤ 796 ⌝ }
+{
+    let mut work = [0i64; WORK];
+    let mut outputs = [0u16; HOURS];
+    let reading = codec::read(file);
+    let case = reading.case;
+    match best::schedule(reading, &mut work, &mut outputs) {
+        Plan::Found(profit) => lines::put_day(out, profit, case, &outputs),
+        Plan::Refused(number) => lines::put_refused(out, number),
+    }
+}
+
+// Puts the text of an input.
+fn put_text(input: &[u8], out: &mut [u8; LONGEST]) -> usize
+    ensures { λ r. ⌜ Puts (now (out .entry)) 0 (printedOf (now (input .entry))) (now (out .exit)) r ⌝ }
+    ensures { λ r. ⌜ r ≤ 796 ⌝ }
+{
+    if INPUT < input.len() {
+        return lines::put_refused(out, 1);
+    }
+    put_best(input, out)
+}
+
+// Writes the text of an input to the front of the lent bytes and returns its length; the bytes past it stay. Where fewer
+// are lent, 10, and every lent byte stays.
+pub fn print(input: &[u8], text: &mut [u8]) -> Written
+    ensures { λ r. ⌜ r ≡ (printingOf (now (input .entry)) (now (text .entry))) .answer ⌝ }
+    ensures { λ _. ⌜ now (text .exit) ≡ (printingOf (now (input .entry)) (now (text .entry))) .lent ⌝ }
+{
+    let mut whole = [0u8; LONGEST];
+    let n = put_text(input, &mut whole);
+    if text.len() < n {
+        return Written::Refused(10);
+    }
+    parts::put(text, 0, &whole[..n]);
+    Written::Bytes(n)
+}
