@@ -1,6 +1,6 @@
 -- The bytes of each line, how many there are, and the text by what the search answers. Assumes nothing.
 use mathlib.Core.Path.{_≡_, refl, sym, ap, _∙_}
-use mathlib.Core.Bool.{Bool, true, false, true≢false}
+use mathlib.Core.Bool.{true, false, true≢false}
 use mathlib.Core.Logic.{⊎-elim}
 use mathlib.Core.List.{List, [], _∷_, _++_}
 use mathlib.Core.Option.{Option, none, some}
@@ -9,7 +9,6 @@ use native.Mathlib.Nat.{eq-or-lt-of-le}
 use native.Mathlib.Omega.{arith}
 use native.Mathlib.Numerals.{add-one}
 use borrow.Author.Tests.{lt-ltb, le-ltb, ltb-true}
-use lib.Dec.{ltb}
 use lib.IntN.{ℤ, pos, negsuc, natAbs}
 use lib.ListN.{length, getD, drop, length-append, List·getD-append}
 use lib.Seq.{sets}
@@ -22,18 +21,18 @@ use Rattle.model.specs.declared.Plan.{Plan}
 use Rattle.model.specs.declared.Plan.the-variants.{Found, Refused as NotPlanned}
 use Rattle.model.specs.declared.Written.the-variants.{Bytes, Refused as NotWritten}
 use Rattle.model.specs.Limits.{mostHours, mostInput, workLength}
-use Rattle.model.specs.Symbols.{last}
+use Rattle.model.specs.Symbols.{last, p0}
 use Rattle.model.specs.Marks.{p}
 use Rattle.model.specs.Profit.{energy, profitOf}
 use Rattle.model.specs.Best.{bestOf}
 use Rattle.model.specs.Layout.{listed}
 use Rattle.model.specs.Refusals.{refusalOf}
 use Rattle.model.specs.Answers.{planned, readOf, scheduleOf}
-use Rattle.model.specs.Printed.{ascii, decimal, field, sign, profitLine, refusedLine, hourLine, hourLines, dayText}
+use Rattle.model.specs.Printed.{decimal, field, sign, profitLine, refusedLine, hourLine, hourLines, dayText}
 use Rattle.model.specs.Printed.{readText, printedOf, printingOf}
 use Rattle.model.proofs.DecimalLaws.{length-decimal}
 use Rattle.model.proofs.KeepsLaws.{kept-length}
-use Rattle.model.proofs.LimitsLaws.{limits-of-refusalOf}
+use Rattle.model.proofs.LimitsLaws.{Limits, limits-of-refusalOf}
 use Rattle.model.proofs.SetsLaws.{sets-front}
 use Rattle.model.proofs.BestLaws.{best-of-bestOf}
 use Rattle.model.proofs.AcceptedLaws.{read-limits}
@@ -104,10 +103,10 @@ module _ (c : Case) (l : List ℕ) where
   unfolding hourLines
   hourLines-none = refl
 
-  pub hourLines-more : (i : ℕ)
-      → hourLines c l (i + 1) ≡ hourLines c l i ++ hourLine (i + 1) (p c l (i + 1)) (p c l (i + 1) + p c l i)
-  unfolding hourLines energy
-  hourLines-more i = rw add-one
+  pub hourLines-more : (i : ℕ) {before : ℕ} → before ≡ p c l i
+      → hourLines c l (i + 1) ≡ hourLines c l i ++ hourLine (i + 1) (getD l i 0) (getD l i 0 + before)
+  unfolding hourLines energy p
+  hourLines-more i e = rw (add-one, e)
 
   -- fewer hours have no more bytes
   pub length-hourLines-le : (i n : ℕ) → i ≤ n → length (hourLines c l i) ≤ length (hourLines c l n)
@@ -122,17 +121,27 @@ module _ (c : Case) (l : List ℕ) where
       (λ g. omega (arith, length-append (hourLines c l n) line, length-hourLines-le i n (omega arith)))
       (eq-or-lt-of-le h)
 
-  pub length-hourLines : ((k : ℕ) → p c l k < 65536) → (n : ℕ) → n < 100 → length (hourLines c l n) ≤ 16 * n
-  unfolding hourLines energy
-  length-hourLines h zero g = omega arith
-  length-hourLines h (suc n) g =
-      omega (
-        arith,
-        length-append (hourLines c l n) (hourLine (suc n) (p c l (suc n)) (p c l (suc n) + p c l n)),
-        length-hourLines h n (omega arith),
-        length-hourLine (suc n) (p c l (suc n)) (p c l (suc n) + p c l n) g (omega (arith, h (suc n)))
-            (omega (arith, h (suc n), h n)),
-      )
+  -- 16-bit outputs
+  module _ (opening : p0 c < 65536) (outputs : (i : ℕ) → getD l i 0 < 65536) where
+    p-lt : (k : ℕ) → p c l k < 65536
+    unfolding p
+    p-lt zero = opening
+    p-lt (suc k) = outputs k
+
+    pub length-hourLines : (n : ℕ) → n < 100 → length (hourLines c l n) ≤ 16 * n
+    unfolding hourLines energy
+    length-hourLines zero h = omega arith
+    length-hourLines (suc n) h =
+        let now = p c l (suc n) in
+        let halves = p c l (suc n) + p c l n in
+        let a = p-lt (suc n) in
+        let b = p-lt n in
+        omega (
+          arith,
+          length-append (hourLines c l n) (hourLine (suc n) now halves),
+          length-hourLines n (omega arith),
+          length-hourLine (suc n) now halves h (omega arith) (omega arith),
+        )
 
   -- what follows the hours of a list is not looked at
   p-append : (m : List ℕ) (k : ℕ) → k ≤ length l → p c (l ++ m) k ≡ p c l k
@@ -166,7 +175,8 @@ module _ (input lent : List ℕ) where
   printingOf-short h = rw (lt-ltb (length lent) (length (printedOf input)) h)
 
   pub printingOf-done : length (printedOf input) ≤ length lent
-      → record { answer = Bytes (length (printedOf input)); lent = sets lent 0 (printedOf input) } ≡ printingOf input lent
+      → record { answer = Bytes (length (printedOf input)); lent = sets lent 0 (printedOf input) }
+      ≡ printingOf input lent
   unfolding printingOf
   printingOf-done h =
       rw (le-ltb (length lent) (length (printedOf input)) h, sets-front (printedOf input) lent h)
@@ -191,7 +201,8 @@ module _ (file : List ℕ) (work : List ℤ) (outputs : List ℕ) (long : workLe
   planned-text e none d = refl
   planned-text e (some l) d =
       let n = kept-length c l (best-of-bestOf c e d .kept) in
-      ap (λ t. profitLine (profitOf c l) ++ t) (sym (hourLines-append c l (drop (length l) outputs) (last c) (omega arith)))
+      let rest = drop (length l) outputs in
+      ap (λ t. profitLine (profitOf c l) ++ t) (sym (hourLines-append c l rest (last c) (omega arith)))
 
   pub readText-plan : (o : Outcome) → readOf file .outcome ≡ o
       → readText o c ≡ planText c (scheduleOf o c work outputs .outputs) (scheduleOf o c work outputs .answer)
@@ -202,9 +213,9 @@ module _ (file : List ℕ) (work : List ℤ) (outputs : List ℕ) (long : workLe
       planned-text z (bestOf c) refl
       ∙ ap (λ s. planText c (s .outputs) (s .answer)) (sym (searched c work outputs z long (hours-room z)))
 
-  -- a list is found only within the hours that a record has room for
-  pub found-hours : (o : Outcome) → readOf file .outcome ≡ o → {m : HalfMills}
-      → scheduleOf o c work outputs .answer ≡ Found m → last c ≤ mostHours
+  -- a list is found only for a case within the limits
+  pub found-limits : (o : Outcome) → readOf file .outcome ≡ o → {m : HalfMills}
+      → scheduleOf o c work outputs .answer ≡ Found m → Limits c
   unfolding scheduleOf
-  found-hours (Refused n) e f = let u : _≡_ {A = ℕ} 0 1 = cc in absurd (omega arith)
-  found-hours Accepted e f = limits-of-refusalOf c (read-limits file e) .hours-le
+  found-limits (Refused n) e f = let u : _≡_ {A = ℕ} 0 1 = cc in absurd (omega arith)
+  found-limits Accepted e f = limits-of-refusalOf c (read-limits file e)

@@ -1,3 +1,2 @@
 -- Laws of the crate's own definitions.
 pub mod PutsLaws
-pub mod LinesLaws

@@ -54,8 +54,8 @@ fn put_hour(out: &mut [u8], at: usize, hour: usize, before: u16, output: u16) ->
 // Puts the hours of a case with a list that has them.
 fn put_hours(out: &mut [u8], at: usize, case: Case, outputs: &[u16]) -> usize
     requires { ⌜ case .hours ≤ length (now outputs) ⌝ }
-    requires { ⌜ at + length (hourLines case (now outputs)) ≤ length (now out) ⌝ }
-    ensures { λ r. ⌜ Puts (now (out .entry)) at (hourLines case (now (outputs .entry))) (now (out .exit)) r ⌝ }
+    requires { ⌜ at + length (hourLines case (now outputs) (case .hours)) ≤ length (now out) ⌝ }
+    ensures { λ r. ⌜ Puts (now (out .entry)) at (hourLines case (now (outputs .entry)) (case .hours)) (now (out .exit)) r ⌝ }
 {
     let mut before = case.initial.0;
     let mut next = at;
@@ -72,8 +72,8 @@ fn put_hours(out: &mut [u8], at: usize, case: Case, outputs: &[u16]) -> usize
 // Puts the profit and the hours of a case with a list that has them.
 pub(crate) fn put_day(out: &mut [u8], profit: HalfMills, case: Case, outputs: &[u16]) -> usize
     requires { ⌜ case .hours ≤ length (now outputs) ⌝ }
-    requires { ⌜ length (profitLine (profit .0) ++ hourLines case (now outputs)) ≤ length (now out) ⌝ }
-    ensures { λ r. ⌜ Puts (now (out .entry)) 0 (profitLine (profit .0) ++ hourLines case (now (outputs .entry)))
+    requires { ⌜ length (profitLine (profit .0) ++ hourLines case (now outputs) (case .hours)) ≤ length (now out) ⌝ }
+    ensures { λ r. ⌜ Puts (now (out .entry)) 0 (profitLine (profit .0) ++ hourLines case (now (outputs .entry)) (case .hours))
         (now (out .exit)) r ⌝ }
 {
     let at = put_profit(out, profit);

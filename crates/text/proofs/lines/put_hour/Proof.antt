@@ -6,7 +6,7 @@ use native.Mathlib.Omega.{arith}
 use lib.ListN.{length}
 use borrow.Author.Needs.{needs}
 use Rattle.model.specs.Printed.{decimal}
-use Rattle.text.proofs.LinesLaws.{hourLine-is}
+use Rattle.model.proofs.PrintedLaws.{hourLine-is}
 use Rattle.text.proofs.PutsLaws.{puts-then, room-first, room-then}
 use Rattle.text.proofs.lines.put_hour.Statement.{statement}
 use Rattle.text.proofs.lines.put_hour.Tie as tie

@@ -7,7 +7,7 @@ use lib.IntN.{natAbs}
 use lib.ListN.{length}
 use borrow.Author.Needs.{needs}
 use Rattle.model.specs.Printed.{decimal, sign}
-use Rattle.text.proofs.LinesLaws.{profitWord, profitLine-is}
+use Rattle.model.proofs.PrintedLaws.{profitWord, profitLine-is}
 use Rattle.text.proofs.PutsLaws.{puts-then, room-first, room-then}
 use Rattle.text.proofs.lines.put_profit.Statement.{statement}
 use Rattle.text.proofs.lines.put_profit.Tie as tie

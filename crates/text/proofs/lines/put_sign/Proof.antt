@@ -6,7 +6,7 @@ use native.Mathlib.Omega.{arith}
 use lib.ListN.{length}
 use borrow.Author.Needs.{needs}
 use Rattle.model.specs.Printed.{sign}
-use Rattle.text.proofs.LinesLaws.{sign-below, sign-above}
+use Rattle.model.proofs.PrintedLaws.{sign-below, sign-above}
 use Rattle.text.proofs.lines.put_sign.Statement.{statement}
 use Rattle.text.proofs.lines.put_sign.Tie as tie
 

@@ -9,7 +9,7 @@ use borrow.Author.Needs.{needs}
 use borrow.Fn.Kinds.{In}
 use borrow.Fn.PlainCycle.{Measures, is, falls, and}
 use Rattle.model.specs.Printed.{glyph, decimal}
-use Rattle.model.proofs.PrintedLaws.{decimal-one, decimal-more}
+use Rattle.model.proofs.DecimalLaws.{decimal-one, decimal-more}
 use Rattle.text.proofs.PutsLaws.{puts-then, room-then}
 use Rattle.text.proofs.parts.put_decimal.Reads as put-decimal
 use Rattle.text.proofs.parts.put_decimal.Kinds as put-decimal-kinds
