@@ -2,6 +2,7 @@
 use mathlib.Core.Path.{_≡_, refl, sym, ap, _∙_}
 use mathlib.Core.List.{List, [], _∷_, _++_}
 use Prim.Native.Nat.{ℕ, _+_, _≤_, _<_}
+use native.Mathlib.Nat.{add-zero}
 use native.Mathlib.Omega.{arith}
 use native.Mathlib.Numerals.{add-one}
 use lib.ListN.{length, getD, set, take, length-append, length-take}
@@ -15,6 +16,9 @@ pub sets-byte : (l part : List ℕ) {l₁ : List ℕ} (at i : ℕ) → i < lengt
 sets-byte l part at i h e =
     rw (add-one, take-suc part i 0 h)
     (sets-next l (take i part) (getD part i 0 ∷ []) at i (omega (arith, length-take i part)) e refl)
+
+pub puts-none : (l : List ℕ) (at : ℕ) → Puts l at [] l at
+puts-none l at = record { bytes = refl; place = sym (add-zero at) }
 
 -- where both have room, the first has it
 pub room-first : (xs ys : List ℕ) (at n : ℕ) → at + length (xs ++ ys) ≤ n → at + length xs ≤ n

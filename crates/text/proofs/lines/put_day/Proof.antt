@@ -1,26 +1,42 @@
+-- `text::lines::put_day` meets its contract. Assumes nothing.
+use Prim.Native.Nat.{ℕ, _+_, _≤_}
+use mathlib.Core.List.{List, _++_}
+use native.Mathlib.Omega.{arith}
+use lib.ListN.{length}
 use borrow.Author.Needs.{needs}
+use Rattle.model.specs.Printed.{profitLine, hourLines}
+use Rattle.text.proofs.PutsLaws.{puts-then, room-first, room-then}
 use Rattle.text.proofs.lines.put_day.Statement.{statement}
 use Rattle.text.proofs.lines.put_day.Tie as tie
-use Rattle.text.proofs.lines.put_day.Reads as reads
-use Rattle.text.proofs.lines.put_day.Lts as lts
-use Rattle.text.proofs.lines.put_hours.Reads as put-hours-reads
-use Rattle.text.proofs.lines.put_profit.Reads as put-profit-reads
 
--- src/lines.rt:79:9
+-- the hours
+abbrev hours : tie.Start → List ℕ
+hours c = hourLines (c .args .case) (c .args .outputs .now) (c .args .case .hours)
+
+-- both parts have room
+room : (c : tie.Start) → 0 + length (profitLine (c .args .profit .0) ++ hours c) ≤ length (c .args .out .now)
+room c = omega (arith, c .pre .1)
+
 put-profit-requires : tie.Need-put-profit-requires
-put-profit-requires c κs = ?
+put-profit-requires c κs =
+    let s = c .before .before .before in
+    let h = room-first (profitLine (s .args .profit .0)) (hours s) 0 (length (s .args .out .now)) (room s) in
+    omega arith
 
--- src/lines.rt:80:5
 put-hours-requires : tie.Need-put-hours-requires
-put-hours-requires c κs = ?
+put-hours-requires c κs =
+    let call = c .before .before .before in
+    let s = call .before .before .before .before in
+    (s .pre .0, room-then (profitLine (s .args .profit .0)) (hours s) (call .put-profit .ensures) (room s))
 
--- src/lines.rt:73:1
 same-length : tie.Need-same-length
 same-length c = search needs
 
--- src/lines.rt:73:1
 returns : tie.Need-returns
-returns c = ?
+returns c =
+    let call = c .before .before .before .before .before .before in
+    let s = call .before .before .before .before in
+    puts-then (profitLine (s .args .profit .0)) (hours s) (call .put-profit .ensures) (c .before .before .put-hours .ensures)
 
 pub put-day-spec : {M : Type 1} → statement M
 put-day-spec = tie.close (tie.spec put-profit-requires put-hours-requires same-length returns)

@@ -1,12 +1,12 @@
 -- `text::lines::put_sign` meets its contract. Assumes nothing.
-use mathlib.Core.Path.{_≡_, refl, sym, ap, _∙_}
+use mathlib.Core.Path.{_≡_, sym, ap, _∙_}
 use mathlib.Core.List.{[], _∷_}
-use native.Mathlib.Nat.{add-zero}
 use native.Mathlib.Omega.{arith}
 use lib.ListN.{length}
 use borrow.Author.Needs.{needs}
 use Rattle.model.specs.Printed.{sign}
 use Rattle.model.proofs.PrintedLaws.{sign-below, sign-above}
+use Rattle.text.proofs.PutsLaws.{puts-none}
 use Rattle.text.proofs.lines.put_sign.Statement.{statement}
 use Rattle.text.proofs.lines.put_sign.Tie as tie
 
@@ -36,7 +36,7 @@ returns-2 : tie.Need-returns-2
 returns-2 c =
     let s = c .before .before .before in
     rw (sign-above (s .args .v .0) (sym (c .before .below .ensures) ∙ c .if1 .left))
-    (record { bytes = refl; place = sym (add-zero (s .args .at)) })
+    (puts-none (s .args .out .now) (s .args .at))
 
 pub put-sign-spec : {M : Type 1} → statement M
 put-sign-spec =
