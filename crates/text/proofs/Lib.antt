@@ -1,2 +1,3 @@
 -- Laws of the crate's own definitions.
 pub mod PutsLaws
+pub mod PlanLaws

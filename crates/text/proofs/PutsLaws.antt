@@ -5,9 +5,9 @@ use Prim.Native.Nat.{ℕ, _+_, _≤_, _<_}
 use native.Mathlib.Nat.{add-zero}
 use native.Mathlib.Omega.{arith}
 use native.Mathlib.Numerals.{add-one}
-use lib.ListN.{length, getD, set, take, length-append, length-take}
-use lib.Seq.{sets, length-sets, take-suc}
-use Rattle.model.proofs.SetsLaws.{sets-next}
+use lib.ListN.{length, getD, set, take, drop, length-append, length-take}
+use lib.Seq.{sets, length-sets, take-suc, take-at}
+use Rattle.model.proofs.SetsLaws.{sets-next, sets-front}
 use Rattle.text.specs.Puts.{Puts}
 
 -- the first i bytes of a part, and one more
@@ -38,3 +38,10 @@ module _ {l l₁ : List ℕ} {at n : ℕ} (xs ys : List ℕ) (a : Puts l at xs l
   room-then h =
       let e : length l₁ ≡ length l = ap length (a .bytes) ∙ length-sets l at xs in
       omega (arith, a .place, length-append xs ys)
+
+-- a text that was put from the front
+pub puts-front : {l after : List ℕ} {n : ℕ} (text : List ℕ) → Puts l 0 text after n → length text ≤ length l
+    → take n after ≡ text
+puts-front {l} {after} {n} text a h =
+    let e : length text ≡ n = omega (arith, a .place) in
+    ap (take n) (a .bytes ∙ sets-front text l h) ∙ take-at text (drop (length text) l) n e

@@ -7,6 +7,7 @@ mod parts;
 ghost use mathlib.Core.Path.{_≡_};
 ghost use Prim.Native.Nat.{_≤_};
 ghost use lib.ListN.{length};
+ghost use Rattle.model.specs.Limits.{mostHours, workLength};
 ghost use Rattle.model.specs.Answers.{readOf};
 ghost use Rattle.model.specs.Printed.{readText, printedOf, printingOf};
 ghost use Rattle.text.specs.Puts.{Puts};
@@ -21,18 +22,17 @@ const INPUT: usize = 4096;
 // Bytes that no text exceeds: a profit line of 28, and 48 hour lines of 16.
 pub const LONGEST: usize = 796;
 
-// Puts the best day of a file, or its refusal.
-fn put_best(file: &[u8], out: &mut [u8; LONGEST]) -> usize
+// Puts the best day of a file, found in lent memory that is long enough, or its refusal.
+fn put_best(file: &[u8], work: &mut [i64], outputs: &mut [u16], out: &mut [u8; LONGEST]) -> usize
+    requires { ⌜ (workLength ≤ length (now work)) × (mostHours ≤ length (now outputs)) ⌝ }
     ensures { λ r. ⌜ Puts (now (out .entry)) 0 (readText (readOf (now (file .entry)) .outcome)
         (readOf (now (file .entry)) .case)) (now (out .exit)) r ⌝ }
     ensures { λ r. ⌜ r ≤ 796 ⌝ }
 {
-    let mut work = [0i64; WORK];
-    let mut outputs = [0u16; HOURS];
     let reading = codec::read(file);
     let case = reading.case;
-    match best::schedule(reading, &mut work, &mut outputs) {
-        Plan::Found(profit) => lines::put_day(out, profit, case, &outputs),
+    match best::schedule(reading, work, outputs) {
+        Plan::Found(profit) => lines::put_day(out, profit, case, outputs),
         Plan::Refused(number) => lines::put_refused(out, number),
     }
 }
@@ -45,14 +45,17 @@ fn put_text(input: &[u8], out: &mut [u8; LONGEST]) -> usize
     if INPUT < input.len() {
         return lines::put_refused(out, 1);
     }
-    put_best(input, out)
+    let mut work = [0i64; WORK];
+    let mut outputs = [0u16; HOURS];
+    put_best(input, &mut work, &mut outputs, out)
 }
 
 // Writes the text of an input to the front of the lent bytes and returns its length; the bytes past it stay. Where fewer
-// are lent, 10, and every lent byte stays.
+// are lent, 10, and every lent byte stays. No text is longer than LONGEST.
 pub fn print(input: &[u8], text: &mut [u8]) -> Written
     ensures { λ r. ⌜ r ≡ (printingOf (now (input .entry)) (now (text .entry))) .answer ⌝ }
     ensures { λ _. ⌜ now (text .exit) ≡ (printingOf (now (input .entry)) (now (text .entry))) .lent ⌝ }
+    ensures { λ _. ⌜ length (printedOf (now (input .entry))) ≤ 796 ⌝ }
 {
     let mut whole = [0u8; LONGEST];
     let n = put_text(input, &mut whole);
