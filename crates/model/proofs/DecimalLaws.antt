@@ -1,6 +1,6 @@
 -- The decimal digits of a number: one, or those of its tenth and one more; how many there are, and that they hold the
 -- number. Assumes nothing.
-use mathlib.Core.Path.{_≡_, refl, sym, ap, _∙_, subst}
+use mathlib.Core.Path.{_≡_, refl, sym, ap, subst}
 use mathlib.Core.Bool.{Bool, true, false, cond}
 use mathlib.Core.List.{List, [], _∷_, _++_}
 use Prim.Native.Nat.{ℕ, zero, suc, _+_, _*_, _-_, _/_, _%_, _^_, _≤_, _<_}
@@ -9,7 +9,8 @@ use lib.Dec.{ltb}
 use lib.ListN.{length, getD, length-append, List·getD-append}
 use lib.Seq.{getD-at}
 use borrow.Author.Tests.{lt-ltb, le-ltb, ltb-true, ltb-false}
-use Rattle.model.specs.Printed.{glyph, digits, decimal, valueOf, Spells}
+use Rattle.model.specs.Printed.{glyph, digits, decimal}
+use Rattle.model.specs.Words.{valueOf, Spells}
 
 -- any two widths that are enough give the same digits
 digits-same : (v w n : ℕ) → n < v → n < w → digits v n ≡ digits w n

@@ -11,7 +11,7 @@ use native.Mathlib.Numerals.{add-one}
 use borrow.Author.Tests.{lt-ltb, le-ltb, ltb-true}
 use lib.IntN.{ℤ, pos, negsuc, natAbs}
 use lib.ListN.{length, getD, drop, length-append, List·getD-append}
-use lib.Seq.{sets}
+use lib.Seq.{sets, take-at, drop-at}
 use lib.Signed.{ltZ}
 use Rattle.model.specs.declared.Case.{Case}
 use Rattle.model.specs.declared.HalfMills.{HalfMills}
@@ -24,19 +24,20 @@ use Rattle.model.specs.Limits.{mostHours, mostInput, workLength}
 use Rattle.model.specs.Symbols.{last, p0}
 use Rattle.model.specs.Marks.{p}
 use Rattle.model.specs.Profit.{energy, profitOf}
-use Rattle.model.specs.Best.{bestOf}
+use Rattle.model.specs.Best.{bestDay}
 use Rattle.model.specs.Layout.{listed}
 use Rattle.model.specs.Refusals.{refusalOf}
 use Rattle.model.specs.Answers.{planned, readOf, scheduleOf}
-use Rattle.model.specs.Printed.{decimal, field, sign, profitLine, refusedLine, hourLine, hourLines, dayText}
+use Rattle.model.specs.Printed.{ascii, digits, decimal, field, sign, profitLine, refusedLine, hourLine, hourLines, dayText}
 use Rattle.model.specs.Printed.{readText, printedOf, printingOf}
+use Rattle.model.specs.Promises.{WritesText, WritesNone}
 use Rattle.model.proofs.DecimalLaws.{length-decimal}
 use Rattle.model.proofs.KeepsLaws.{kept-length}
 use Rattle.model.proofs.LimitsLaws.{Limits, limits-of-refusalOf}
 use Rattle.model.proofs.SetsLaws.{sets-front}
-use Rattle.model.proofs.BestLaws.{best-of-bestOf}
+use Rattle.model.proofs.BestLaws.{best-of-bestDay}
 use Rattle.model.proofs.AcceptedLaws.{read-limits}
-use Rattle.model.proofs.AnswersLaws.{searched}
+use Rattle.model.proofs.ScheduleLaws.{scheduleOf-planned}
 
 -- "refused " and "profit "
 abbrev pub refusedWord : List ℕ
@@ -167,8 +168,37 @@ module _ (input : List ℕ) where
   unfolding printedOf
   printedOf-read h = rw (le-ltb mostInput (length input) h)
 
+-- ---- the promises of the text
+pub printed-long : (input : List ℕ) → mostInput < length input → printedOf input ≡ ascii "refused 1\n"
+unfolding refusedLine field decimal digits listed
+printed-long input h = printedOf-long input h
+
+pub printed-refused : (input : List ℕ) (n : ℕ) → length input ≤ mostInput → readOf input .outcome ≡ Refused n
+    → printedOf input ≡ ascii "refused " ++ (decimal n ++ ascii "\n")
+unfolding readText refusedLine field
+printed-refused input n h e = printedOf-read input h ∙ ap (λ o. readText o (readOf input .case)) e
+
 -- what `print` answers and leaves
 module _ (input lent : List ℕ) where
+  abbrev text : List ℕ
+  text = printedOf input
+
+  pub printed : length text ≤ length lent → WritesText text lent (printingOf input lent)
+  unfolding printingOf
+  printed h =
+      rw (le-ltb (length lent) (length text) h)
+      (record {
+        unrefused = refl;
+        size = refl;
+        front = take-at text (drop (length text) lent) (length text) refl;
+        beyond = drop-at text (drop (length text) lent) (length text) refl;
+      })
+
+  pub unprinted : length lent < length text → WritesNone 10 lent (printingOf input lent)
+  unfolding printingOf
+  unprinted h =
+      rw (lt-ltb (length lent) (length text) h) (record { number = refl; nothing = refl; untouched = refl })
+
   pub printingOf-short : length lent < length (printedOf input)
       → record { answer = NotWritten 10; lent = lent } ≡ printingOf input lent
   unfolding printingOf
@@ -195,12 +225,12 @@ module _ (file : List ℕ) (work : List ℤ) (outputs : List ℕ) (long : workLe
   hours-room : refusalOf c ≡ 0 → last c ≤ length outputs
   hours-room e = omega (arith, limits-of-refusalOf c e .hours-le)
 
-  planned-text : refusalOf c ≡ 0 → (b : Option (List ℕ)) → bestOf c ≡ b
+  planned-text : refusalOf c ≡ 0 → (b : Option (List ℕ)) → bestDay c ≡ b
       → dayText c b ≡ planText c (planned c work outputs b .outputs) (planned c work outputs b .answer)
   unfolding dayText planText planned
   planned-text e none d = refl
   planned-text e (some l) d =
-      let n = kept-length c l (best-of-bestOf c e d .kept) in
+      let n = kept-length c l (best-of-bestDay c e d .kept) in
       let rest = drop (length l) outputs in
       ap (λ t. profitLine (profitOf c l) ++ t) (sym (hourLines-append c l rest (last c) (omega arith)))
 
@@ -210,8 +240,8 @@ module _ (file : List ℕ) (work : List ℤ) (outputs : List ℕ) (long : workLe
   readText-plan (Refused n) e = refl
   readText-plan Accepted e =
       let z = read-limits file e in
-      planned-text z (bestOf c) refl
-      ∙ ap (λ s. planText c (s .outputs) (s .answer)) (sym (searched c work outputs z long (hours-room z)))
+      planned-text z (bestDay c) refl
+      ∙ ap (λ s. planText c (s .outputs) (s .answer)) (sym (scheduleOf-planned c work outputs z long (hours-room z)))
 
   -- a list is found only for a case within the limits
   pub found-limits : (o : Outcome) → readOf file .outcome ≡ o → {m : HalfMills}

@@ -1,15 +1,14 @@
 -- What the program prints for the bytes of an input, in ASCII (document 01, "A program reads a case from standard
 -- input"), and what `print` answers and leaves in lent memory. Definitions only. Assumes nothing.
-use mathlib.Core.Path.{_≡_}
 use mathlib.Core.Bool.{cond}
 use mathlib.Core.List.{List, [], _∷_, _++_}
 use mathlib.Core.Option.{Option, none, some}
-use Prim.Native.Nat.{ℕ, zero, suc, _+_, _*_, _-_, _/_, _%_, _≤_, _<_}
+use Prim.Native.Nat.{ℕ, zero, suc, _+_, _/_, _%_}
 use Prim.Native.Char.{code}
 use Prim.Native.String.{String, len, charAt}
 use lib.Dec.{ltb}
 use lib.IntN.{ℤ, pos, negsuc, natAbs}
-use lib.ListN.{length, getD, drop}
+use lib.ListN.{length, drop}
 use Rattle.model.specs.declared.Case.{Case}
 use Rattle.model.specs.declared.Outcome.{Outcome}
 use Rattle.model.specs.declared.Outcome.the-variants.{Accepted, Refused}
@@ -18,7 +17,7 @@ use Rattle.model.specs.Limits.{mostInput}
 use Rattle.model.specs.Symbols.{last}
 use Rattle.model.specs.Marks.{p}
 use Rattle.model.specs.Profit.{energy, profitOf}
-use Rattle.model.specs.Best.{bestOf}
+use Rattle.model.specs.Best.{bestDay}
 use Rattle.model.specs.Layout.{listed}
 use Rattle.model.specs.Answers.{Writing, readOf}
 
@@ -40,18 +39,6 @@ digits (suc width) n =
 -- the decimal digits of n; n + 1 of them are always enough
 unfoldable pub decimal : ℕ → List ℕ
 decimal n = digits (suc n) n
-
--- the number that digits hold after those of `so`, the most significant first
-unfoldable pub valueOf : ℕ → List ℕ → ℕ
-valueOf so [] = so
-valueOf so (d ∷ ds) = valueOf (10 * so + (d - 48)) ds
-
--- the text is n in decimal: digits that hold it, and no leading zero
-pub record Spells (n : ℕ) (text : List ℕ) : Type 0 where
-  pub holds : valueOf 0 text ≡ n
-  pub some : 0 < length text
-  pub digit : (i : ℕ) → i < length text → (48 ≤ getD text i 0) × (getD text i 0 ≤ 57)
-  pub first : 1 < length text → 48 < getD text 0 0
 
 -- a number, and the text after it
 unfoldable pub field : ℕ → String → List ℕ
@@ -86,7 +73,7 @@ dayText c (some l) = profitLine (profitOf c l) ++ hourLines c l (last c)
 
 -- the best day of a case that was read, or its refusal
 unfoldable pub readText : Outcome → Case → List ℕ
-readText Accepted c = dayText c (bestOf c)
+readText Accepted c = dayText c (bestDay c)
 readText (Refused n) c = refusedLine n
 
 -- what the program prints for an input: 1 where it is longer than a case may be, whatever its bytes

@@ -1,13 +1,14 @@
 -- A second view of the rules: each in the source's own form, with its minus signs, or in the words of document 01,
--- "Rules of a list"; the first breach; and demand 3's "earns less, or earns the same and is the higher". The promises
--- tie it to Constraints, Rules and Best; no entry rests on it. Definitions only. Assumes nothing.
+-- "Rules of a list"; the first breach; demand 3's "earns less, or earns the same and is the higher"; and a number in
+-- decimal. The promises tie it to Constraints, Rules, Best and Printed; no entry rests on it. Definitions only. Assumes
+-- nothing.
 use mathlib.Core.Path.{_≡_}
 use mathlib.Core.Bool.{Bool, _||_}
-use mathlib.Core.List.{List}
+use mathlib.Core.List.{List, [], _∷_}
 use Prim.Native.Nat.{ℕ, zero, suc, _+_, _*_, _-_, _≤_, _<_}
 use lib.Dec.{T, eqb}
 use lib.IntN.{ℤ, pos, _+ℤ_, _-ℤ_, _*ℤ_}
-use lib.ListN.{getD}
+use lib.ListN.{length, getD}
 use lib.Signed.{_≤ℤ_, _<ℤ_}
 use Rattle.model.specs.declared.Case.{Case}
 use Rattle.model.specs.Symbols.{stage, hourly}
@@ -91,3 +92,15 @@ pub data Beaten (earns : List ℕ → ℤ) (l m : List ℕ) : Type 0 where
   less : earns m <ℤ earns l → Beaten earns l m
   higher : earns m ≡ earns l → (k : ℕ) → ((i : ℕ) → i < k → getD m i 0 ≡ getD l i 0) → getD l k 0 < getD m k 0
       → Beaten earns l m
+
+-- the number that digits hold after those of `so`, the most significant first
+unfoldable pub valueOf : ℕ → List ℕ → ℕ
+valueOf so [] = so
+valueOf so (d ∷ ds) = valueOf (10 * so + (d - 48)) ds
+
+-- the text is n in decimal: digits that hold it, and no leading zero
+pub record Spells (n : ℕ) (text : List ℕ) : Type 0 where
+  pub holds : valueOf 0 text ≡ n
+  pub some : 0 < length text
+  pub digit : (i : ℕ) → i < length text → (48 ≤ getD text i 0) × (getD text i 0 ≤ 57)
+  pub first : 1 < length text → 48 < getD text 0 0

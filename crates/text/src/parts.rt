@@ -1,6 +1,5 @@
 // Parts of a line, put into lent bytes from a place on: bytes as they are, and numbers in decimal. Each function leaves
 // every other byte as it was and returns the place past its part.
-ghost use mathlib.Core.Path.{_≡_};
 ghost use mathlib.Core.List.{[], _∷_, _++_};
 ghost use Prim.Native.Nat.{_+_, _≤_, _<_};
 ghost use lib.ListN.{length};

@@ -1,5 +1,5 @@
 -- `best_day::main` is safe and ends: the text has room in the bytes that it lends. Assumes nothing.
-use mathlib.Core.Path.{_≡_, refl, sym, ap, _∙_}
+use mathlib.Core.Path.{_≡_, refl, ap}
 use mathlib.Core.Bool.{Bool, true, false}
 use mathlib.Core.List.{List}
 use Prim.Native.Nat.{ℕ, _≤_}
@@ -9,7 +9,7 @@ use borrow.Author.Tests.{ltb-true, ltb-false}
 use lib.Dec.{ltb}
 use lib.ListN.{length, take, length-take}
 use Rattle.model.specs.declared.Written.{Written}
-use Rattle.model.specs.declared.Written.the-variants.{Bytes, Refused}
+use Rattle.model.specs.declared.Written.the-variants.{Bytes}
 use Rattle.model.specs.Printed.{printedOf, printingOf}
 use Rattle.model.proofs.PrintedLaws.{printingOf-short, printingOf-done}
 use Rattle.best_day.proofs.main.Statement.{statement}
