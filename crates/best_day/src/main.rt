@@ -1,5 +1,5 @@
-// Reads a case of up to 4,096 bytes from standard input and prints its best day, or the number of a refusal, on standard
-// output. The text is made by text::print; this program only reads and writes.
+// Reads a case of up to 4,096 bytes from standard input and prints its best day, or the number of a refusal, on
+// standard output. The text is made by text::print; this program only reads and writes.
 use libc::STDIN_FILENO;
 use libc::STDOUT_FILENO;
 use model::Written;

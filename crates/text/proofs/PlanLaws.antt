@@ -35,7 +35,8 @@ module _ (file : List ℕ) (work : List ℤ) (outputs : List ℕ) (long : workLe
   told-refused d = told ∙ ap (planText (r .case) left) d
 
   pub told-found : {m : HalfMills} → plan ≡ Found m
-      → readText (readOf file .outcome) (readOf file .case) ≡ profitLine (m .0) ++ hourLines (r .case) left (r .case .hours)
+      → readText (readOf file .outcome) (readOf file .case)
+      ≡ profitLine (m .0) ++ hourLines (r .case) left (r .case .hours)
   unfolding planText
   told-found d = told ∙ ap (planText (r .case) left) d
 

@@ -50,8 +50,8 @@ fn put_text(input: &[u8], out: &mut [u8; LONGEST]) -> usize
     put_best(input, &mut work, &mut outputs, out)
 }
 
-// Writes the text of an input to the front of the lent bytes and returns its length; the bytes past it stay. Where fewer
-// are lent, 10, and every lent byte stays. No text is longer than LONGEST.
+// Writes the text of an input to the front of the lent bytes and returns its length; the bytes past it stay. Where
+// fewer are lent, 10, and every lent byte stays. No text is longer than LONGEST.
 pub fn print(input: &[u8], text: &mut [u8]) -> Written
     ensures { λ r. ⌜ r ≡ (printingOf (now (input .entry)) (now (text .entry))) .answer ⌝ }
     ensures { λ _. ⌜ now (text .exit) ≡ (printingOf (now (input .entry)) (now (text .entry))) .lent ⌝ }

@@ -1,5 +1,6 @@
-// The lines of the program's text, put into lent bytes from a place on (model's specs/Printed). Each function leaves every
-// other byte as it was and returns the place past its lines.
+// The lines of the program's text, put into lent bytes from a place on (model's specs/Printed). Each function leaves
+// every other byte as it was and returns the place past its lines.
+ghost use mathlib.Core.Path.{_≡_};
 ghost use mathlib.Core.List.{_++_};
 ghost use Prim.Native.Nat.{_+_, _≤_};
 ghost use lib.ListN.{length};
@@ -54,7 +55,8 @@ fn put_hour(out: &mut [u8], at: usize, hour: usize, before: u16, output: u16) ->
 fn put_hours(out: &mut [u8], at: usize, case: Case, outputs: &[u16]) -> usize
     requires { ⌜ case .hours ≤ length (now outputs) ⌝ }
     requires { ⌜ at + length (hourLines case (now outputs) (case .hours)) ≤ length (now out) ⌝ }
-    ensures { λ r. ⌜ Puts (now (out .entry)) at (hourLines case (now (outputs .entry)) (case .hours)) (now (out .exit)) r ⌝ }
+    ensures { λ r. ⌜ Puts (now (out .entry)) at (hourLines case (now (outputs .entry)) (case .hours))
+        (now (out .exit)) r ⌝ }
 {
     let mut before = case.initial.0;
     let mut next = at;
@@ -72,8 +74,8 @@ fn put_hours(out: &mut [u8], at: usize, case: Case, outputs: &[u16]) -> usize
 pub(crate) fn put_day(out: &mut [u8], profit: HalfMills, case: Case, outputs: &[u16]) -> usize
     requires { ⌜ case .hours ≤ length (now outputs) ⌝ }
     requires { ⌜ length (profitLine (profit .0) ++ hourLines case (now outputs) (case .hours)) ≤ length (now out) ⌝ }
-    ensures { λ r. ⌜ Puts (now (out .entry)) 0 (profitLine (profit .0) ++ hourLines case (now (outputs .entry)) (case .hours))
-        (now (out .exit)) r ⌝ }
+    ensures { λ r. ⌜ Puts (now (out .entry)) 0
+        (profitLine (profit .0) ++ hourLines case (now (outputs .entry)) (case .hours)) (now (out .exit)) r ⌝ }
 {
     let at = put_profit(out, profit);
     put_hours(out, at, case, outputs)

@@ -20,13 +20,16 @@ printed-length : (input lent : List ℕ) {w : Written} {n : ℕ} → w ≡ print
     → n ≡ length (printedOf input)
 printed-length input lent {w} {n} a b = go (ltb (length lent) (length (printedOf input))) refl
   where
-    go : (t : Bool) → ltb (length lent) (length (printedOf input)) ≡ t → n ≡ length (printedOf input)
+    size : ℕ
+    size = length (printedOf input)
+
+    go : (t : Bool) → ltb (length lent) size ≡ t → n ≡ size
     go true e =
-        let d = ap (λ x. x .answer) (printingOf-short input lent (ltb-true (length lent) (length (printedOf input)) e)) in
+        let d = ap (λ x. x .answer) (printingOf-short input lent (ltb-true (length lent) size e)) in
         let u : _≡_ {A = ℕ} 0 1 = cc in
         absurd (omega arith)
     go false e =
-        let d = ap (λ x. x .answer) (printingOf-done input lent (ltb-false (length lent) (length (printedOf input)) e)) in
+        let d = ap (λ x. x .answer) (printingOf-done input lent (ltb-false (length lent) size e)) in
         cc
 
 -- and have room in the bytes that were lent

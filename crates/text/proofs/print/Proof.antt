@@ -61,10 +61,11 @@ returns-2 c =
     let call = c .before .before .before .before .before .before in
     let args = call .before .before .before .before .args in
     let lent = args .text .now in
-    let room : length (text call) ≤ length lent = omega (arith, c .before .before .before .before .before .if1 .left, size call) in
+    let left = c .before .before .before .before .before in
+    let room : length (text call) ≤ length lent = omega (arith, left .if1 .left, size call) in
     let e = printingOf-done (args .input .now) lent room in
-    let left = c .before .before .put .ensures .bytes ∙ ap (sets lent 0) (front call) ∙ ap (λ w. w .lent) e in
-    (ap Bytes (size call) ∙ ap (λ w. w .answer) e, (left, most call))
+    let written = c .before .before .put .ensures .bytes ∙ ap (sets lent 0) (front call) ∙ ap (λ w. w .lent) e in
+    (ap Bytes (size call) ∙ ap (λ w. w .answer) e, (written, most call))
 
 pub print-spec : {M : Type 1} → statement M
 print-spec =

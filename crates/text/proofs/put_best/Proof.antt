@@ -1,5 +1,5 @@
--- `text::put_best` meets its contract. The text is that of the plan, and the numbers of a plan have so few digits that it
--- has room. Assumes nothing.
+-- `text::put_best` meets its contract. The text is that of the plan, whose numbers have so few digits that it has room.
+-- Assumes nothing.
 use mathlib.Core.Path.{_≡_}
 use mathlib.Core.List.{List, _++_}
 use Prim.Native.Nat.{ℕ, _+_, _≤_, _<_, _^_}
@@ -36,7 +36,8 @@ module _ (c : tie.After-schedule) where
 
   found : {m : HalfMills} → c .schedule .result ≡ Found m
       → text
-      ≡ profitLine (m .0) ++ hourLines (read .read .result .case) (c .schedule .last .1 .1 .0) (read .read .result .case .hours)
+      ≡ profitLine (m .0)
+      ++ hourLines (read .read .result .case) (c .schedule .last .1 .1 .0) (read .read .result .case .hours)
   found = told-found (s .args .file .now) (s .args .work .now) (s .args .outputs .now) (s .pre .0) (s .pre .1)
       (read .read .ensures) (c .schedule .ensures .0) (c .schedule .ensures .1 .1)
 

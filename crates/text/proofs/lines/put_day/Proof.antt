@@ -36,7 +36,8 @@ returns : tie.Need-returns
 returns c =
     let call = c .before .before .before .before .before .before in
     let s = call .before .before .before .before in
-    puts-then (profitLine (s .args .profit .0)) (hours s) (call .put-profit .ensures) (c .before .before .put-hours .ensures)
+    puts-then (profitLine (s .args .profit .0)) (hours s) (call .put-profit .ensures)
+    (c .before .before .put-hours .ensures)
 
 pub put-day-spec : {M : Type 1} → statement M
 put-day-spec = tie.close (tie.spec put-profit-requires put-hours-requires same-length returns)

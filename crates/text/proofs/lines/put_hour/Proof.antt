@@ -24,7 +24,9 @@ module _ (c : tie.Start) where
 
   -- they have room
   room : c .args .at + length (hour ++ (output ++ halves)) ≤ length (c .args .out .now)
-  room = omega (arith, c .pre, ap length (hourLine-is (c .args .hour) (c .args .output) (c .args .output + c .args .before)))
+  room =
+      let args = c .args in
+      omega (arith, c .pre, ap length (hourLine-is (args .hour) (args .output) (args .output + args .before)))
 
 slice-aggregate-put-field : tie.Need-slice-aggregate-put-field
 slice-aggregate-put-field c = search needs

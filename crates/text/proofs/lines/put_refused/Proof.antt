@@ -12,7 +12,8 @@ use Rattle.text.proofs.lines.put_refused.Statement.{statement}
 use Rattle.text.proofs.lines.put_refused.Tie as tie
 
 -- the line has room in its two parts
-room : (c : tie.Start) → 0 + length (refusedWord ++ (decimal (c .args .number) ++ (10 ∷ []))) ≤ length (c .args .out .now)
+room : (c : tie.Start)
+    → 0 + length (refusedWord ++ (decimal (c .args .number) ++ (10 ∷ []))) ≤ length (c .args .out .now)
 room c = omega (arith, c .pre, ap length (refusedLine-is (c .args .number)))
 
 slice-aggregate-put : tie.Need-slice-aggregate-put

@@ -90,7 +90,13 @@ put-decimal-put-digit-requires-2 t c κs =
     let s = here .before .before in
     let n = s .args .n in
     let large : 10 ≤ n = omega (arith, here .if1 .left) in
-    (omega arith, omega (arith, room-then (decimal (n / 10)) (glyph (n % 10) ∷ []) (first .put-decimal .ensures) (rw (← decimal-more n large) (s .pre .1))))
+    let tail = glyph (n % 10) ∷ [] in (
+      omega arith,
+      omega (
+        arith,
+        room-then (decimal (n / 10)) tail (first .put-decimal .ensures) (rw (← decimal-more n large) (s .pre .1)),
+      ),
+    )
 
 put-decimal-same-length-2 : (t : ℕ) → put-decimal-lts.Need-same-length-2 (
   put-digit-reads.Asked,

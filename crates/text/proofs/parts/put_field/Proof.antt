@@ -24,7 +24,8 @@ returns : tie.Need-returns
 returns c =
     let first = c .before .before .before .before .before .before in
     let s = first .before .before .before .before in
-    puts-then (decimal (s .args .n)) (s .args .after .now) (first .put-decimal .ensures) (c .before .before .put .ensures)
+    puts-then (decimal (s .args .n)) (s .args .after .now) (first .put-decimal .ensures)
+    (c .before .before .put .ensures)
 
 pub put-field-spec : {M : Type 1} → statement M
 put-field-spec = tie.close (tie.spec put-decimal-requires put-requires same-length returns)
