@@ -1,6 +1,5 @@
 // The lines of the program's text, put into lent bytes from a place on (model's specs/Printed). Each function leaves
 // every other byte as it was and returns the place past its lines.
-ghost use mathlib.Core.Path.{_≡_};
 ghost use mathlib.Core.List.{_++_};
 ghost use Prim.Native.Nat.{_+_, _≤_};
 ghost use lib.ListN.{length};
