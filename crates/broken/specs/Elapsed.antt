@@ -3,6 +3,7 @@ use mathlib.Core.Path.{_≡_}
 use mathlib.Core.List.{List}
 use Prim.Native.Nat.{ℕ, _+_, _≤_, _<_}
 use Rattle.model.specs.declared.Case.{Case}
+use Rattle.model.specs.Limits.{mostElapsed}
 use Rattle.model.specs.Symbols.{before, h}
 use Rattle.model.specs.Marks.{y, z}
 use Rattle.model.specs.Rules.{hoursSince}
@@ -18,10 +19,10 @@ pub record Later (hours mark r : ℕ) : Type 0 where
 
 -- they are, at hour k of a list, the hours since the latest start and since the latest stop
 pub record Elapsed (c : Case) (l : List ℕ) (k : ℕ) (s : Since) : Type 0 where
-  pub start : s .start ≡ hoursSince (h c) (y c l) k (before k)
-  pub stop : s .stop ≡ hoursSince (h c) (z c l) k (before k)
-  pub startmost : s .start ≤ 65535 + k
-  pub stopmost : s .stop ≤ 65535 + k
+  pub start : s .start .0 ≡ hoursSince (h c) (y c l) k (before k)
+  pub stop : s .stop .0 ≡ hoursSince (h c) (z c l) k (before k)
+  pub startmost : s .start .0 ≤ mostElapsed + k
+  pub stopmost : s .stop .0 ≤ mostElapsed + k
 
 -- from the hours at any hour from 1 on, with that hour's numbers, r are those at the next
 pub record Passed (s : Since) (n : Numbers) (r : Since) : Type 0 where

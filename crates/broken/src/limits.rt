@@ -1,137 +1,70 @@
-// Constraints (1) to (12) of an hour, each by its own comparison (model's specs/Constraints). A test is given the
-// hour's numbers, and holds for every list and hour that have these.
+// The comparisons of constraints (1) to (6), (11) and (12), each for the constraints that differ in what is compared
+// (model's specs/Constraints). A listed output may be any 16-bit number, so two are added in more bits.
 use hours::Numbers;
-use hours::sums::scaled;
-use model::Case;
+use hours::stages::Sequence;
+use hours::stages::plus;
+use hours::stages::scaled;
 use model::Output;
 ghost use mathlib.Core.Path.{_≡_};
-ghost use mathlib.Core.List.{List};
-ghost use Prim.Native.Nat.{ℕ, _<_};
-ghost use Rattle.model.specs.Constraints.{rule1, rule2, rule3, rule4, rule5, rule6};
-ghost use Rattle.model.specs.Constraints.{rule7, rule8, rule9, rule10, rule11, rule12};
-ghost use Rattle.model.specs.Symbols.{PU, PD, UD};
-ghost use Rattle.hours.specs.Sized.{Sized};
-ghost use Rattle.hours.specs.Numbered.{Small, Numbered};
+ghost use Prim.Native.Nat.{_+_, _*_, _≤_};
+ghost use lib.Dec.{leb};
+ghost use Rattle.hours.specs.Numbered.{Small};
 
-// (1): the least output, by PU.
-pub fn keeps1(case: Case, n: Numbers) -> bool
-    requires { ⌜ Small n ⌝ }
-    ensures { λ r. ⌜ ((l : List ℕ) (k : ℕ) → Numbered case l k n → r ≡ rule1 case l k) ⌝ }
+// Whether two outputs together are at most two others.
+fn at_most(a: Output, b: Output, c: Output, d: Output) -> bool
+    ensures { λ r. ⌜ r ≡ leb (a .0 + b .0) (c .0 + d .0) ⌝ }
 {
-    let low = case.minimum;
-    scaled(low, n.online) + n.startoutput <= n.output + scaled(low, n.stopping + n.starting)
+    (a.0 as u32) + (b.0 as u32) <= (c.0 as u32) + (d.0 as u32)
 }
 
-// (2): the least output, by PD.
-pub fn keeps2(case: Case, n: Numbers) -> bool
-    requires { ⌜ Small n ⌝ }
-    ensures { λ r. ⌜ ((l : List ℕ) (k : ℕ) → Numbered case l k n → r ≡ rule2 case l k) ⌝ }
+// (1) and (2): the least output, by the sequence that prescribes one.
+pub fn above_least(low: Output, n: Numbers, s: Sequence) -> bool
+    requires { ⌜ (low .0 ≤ 400) × Small n ⌝ }
+    ensures { λ r. ⌜ r ≡ leb (low .0 * n .marks .online + s .output .0)
+        (n .output .0 + low .0 * (n .shutdown .marks + n .startup .marks)) ⌝ }
 {
-    let low = case.minimum;
-    scaled(low, n.online) + n.stopoutput <= n.output + scaled(low, n.stopping + n.starting)
+    let inside = scaled(low, n.shutdown.marks + n.startup.marks);
+    at_most(scaled(low, n.marks.online), s.output, n.output, inside)
 }
 
-// (3): the greatest output, by PU.
-pub fn keeps3(case: Case, n: Numbers) -> bool
-    requires { ⌜ Small n ⌝ }
-    ensures { λ r. ⌜ ((l : List ℕ) (k : ℕ) → Numbered case l k n → r ≡ rule3 case l k) ⌝ }
+// (3) and (4): the greatest output, by the sequence that prescribes one.
+pub fn below_most(high: Output, n: Numbers, s: Sequence) -> bool
+    requires { ⌜ (high .0 ≤ 400) × Small n × (s .marks ≤ 8) ⌝ }
+    ensures { λ r. ⌜ r ≡ leb (n .output .0 + high .0 * s .marks) (s .output .0 + high .0 * n .marks .online) ⌝ }
 {
-    let high = case.capacity;
-    n.output + scaled(high, n.starting) <= n.startoutput + scaled(high, n.online)
+    at_most(
+        n.output,
+        scaled(high, s.marks),
+        s.output,
+        scaled(high, n.marks.online),
+    )
 }
 
-// (4): the greatest output, by PD.
-pub fn keeps4(case: Case, n: Numbers) -> bool
-    requires { ⌜ Small n ⌝ }
-    ensures { λ r. ⌜ ((l : List ℕ) (k : ℕ) → Numbered case l k n → r ≡ rule4 case l k) ⌝ }
+// (5) and (6): the ramp from the lower output to the higher, waived in the hours of a sequence.
+pub fn within_ramp(
+    high: Output,
+    ramp: Output,
+    lower: Output,
+    higher: Output,
+    waived: u8,
+    online: u8,
+) -> bool
+    requires { ⌜ (high .0 ≤ 400) × (ramp .0 ≤ 400) × (waived ≤ 8) × (online ≤ 1) ⌝ }
+    ensures { λ r. ⌜ r ≡ leb (higher .0 + ramp .0 * waived) (lower .0 + (high .0 * waived + ramp .0 * online)) ⌝ }
 {
-    let high = case.capacity;
-    n.output + scaled(high, n.stopping) <= n.stopoutput + scaled(high, n.online)
+    let most = plus(scaled(high, waived), scaled(ramp, online));
+    at_most(higher, scaled(ramp, waived), lower, most)
 }
 
-// (5): ramp-up, waived inside PU.
-pub fn keeps5(case: Case, n: Numbers) -> bool
-    requires { ⌜ Small n ⌝ }
-    ensures { λ r. ⌜ ((l : List ℕ) (k : ℕ) → Numbered case l k n → r ≡ rule5 case l k) ⌝ }
+// (11) and (12): a start-up and a shut-down meet at the minimum output, where PU ends and PD begins.
+pub fn meets_low(low: Output, n: Numbers) -> bool
+    requires { ⌜ (low .0 ≤ 400) × Small n ⌝ }
+    ensures { λ r. ⌜ r ≡ leb (low .0 * (n .shutdown .marks + n .startup .marks) + 0) (n .output .0 + low .0) ⌝ }
 {
-    let high = case.capacity;
-    let ramp = case.rampup;
-    n.output + scaled(ramp, n.starting)
-        <= n.earlier + (scaled(high, n.starting) + scaled(ramp, n.online))
-}
-
-// (6): ramp-down, waived inside PD.
-pub fn keeps6(case: Case, n: Numbers) -> bool
-    requires { ⌜ Small n ⌝ }
-    ensures { λ r. ⌜ ((l : List ℕ) (k : ℕ) → Numbered case l k n → r ≡ rule6 case l k) ⌝ }
-{
-    let high = case.capacity;
-    let ramp = case.rampdown;
-    n.earlier + scaled(ramp, n.falling)
-        <= n.output + (scaled(high, n.falling) + scaled(ramp, n.wasonline))
-}
-
-// (7): a start or a stop where the unit changes between off-line and on-line.
-pub fn keeps7(n: Numbers) -> bool
-    requires { ⌜ Small n ⌝ }
-    ensures { λ r. ⌜ ((c : Case) (l : List ℕ) (k : ℕ) → Numbered c l k n → r ≡ rule7 c l k) ⌝ }
-{
-    n.start + n.wasonline == n.online + n.stop
-}
-
-// (8): on-line inside PU.
-pub fn keeps8(n: Numbers) -> bool
-    ensures { λ r. ⌜ ((c : Case) (l : List ℕ) (k : ℕ) → Numbered c l k n → r ≡ rule8 c l k) ⌝ }
-{
-    n.starting <= n.online
-}
-
-// (9): on-line inside PD.
-pub fn keeps9(n: Numbers) -> bool
-    ensures { λ r. ⌜ ((c : Case) (l : List ℕ) (k : ℕ) → Numbered c l k n → r ≡ rule9 c l k) ⌝ }
-{
-    n.stopping <= n.online
-}
-
-// (10): no stop until a start-up and a shut-down fit one after the other.
-pub fn keeps10(n: Numbers) -> bool
-    requires { ⌜ Small n ⌝ }
-    ensures { λ r. ⌜ ((c : Case) (l : List ℕ) (k : ℕ) → Numbered c l k n → r ≡ rule10 c l k) ⌝ }
-{
-    n.start + n.meeting <= 1
-}
-
-// PU(UD), in MW.
-fn last_rise(case: Case) -> Output
-    requires { ⌜ Sized case ⌝ }
-    ensures { λ r. ⌜ r .0 ≡ PU case (UD case) ⌝ }
-{
-    let at = case.rises - 1;
-    case.rise[at]
-}
-
-// PD(1), in MW.
-fn first_fall(case: Case) -> Output
-    ensures { λ r. ⌜ r .0 ≡ PD case 1 ⌝ }
-{
-    case.fall[0]
-}
-
-// (11): a start-up and a shut-down meet at the last of PU.
-pub fn keeps11(case: Case, n: Numbers) -> bool
-    requires { ⌜ Sized case ⌝ }
-    requires { ⌜ Small n ⌝ }
-    ensures { λ r. ⌜ ((l : List ℕ) (k : ℕ) → Numbered case l k n → r ≡ rule11 case l k) ⌝ }
-{
-    let top = last_rise(case);
-    scaled(top, n.stopping + n.starting) <= n.output + (top.0 as usize)
-}
-
-// (12): a start-up and a shut-down meet at the first of PD.
-pub fn keeps12(case: Case, n: Numbers) -> bool
-    requires { ⌜ Small n ⌝ }
-    ensures { λ r. ⌜ ((l : List ℕ) (k : ℕ) → Numbered case l k n → r ≡ rule12 case l k) ⌝ }
-{
-    let top = first_fall(case);
-    scaled(top, n.stopping + n.starting) <= n.output + (top.0 as usize)
+    at_most(
+        scaled(low, n.shutdown.marks + n.startup.marks),
+        Output(0),
+        n.output,
+        low,
+    )
 }

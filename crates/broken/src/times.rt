@@ -2,25 +2,27 @@
 // hour.
 use hours::Numbers;
 use model::Case;
+use model::Hour;
 ghost use mathlib.Core.Path.{_≡_};
+ghost use mathlib.Core.Bool.{_&&_, _||_};
 ghost use mathlib.Core.List.{List};
-ghost use Prim.Native.Nat.{ℕ, _<_, _≤_, _^_};
-ghost use Rattle.model.specs.Symbols.{order};
-ghost use Rattle.model.specs.Rules.{rule21, rule22, rule23};
-ghost use Rattle.hours.specs.Numbered.{Numbered};
+ghost use Prim.Native.Nat.{ℕ, _<_};
+ghost use lib.Dec.{leb, eqb};
+ghost use Rattle.hours.specs.Sized.{Sized};
 ghost use Rattle.broken.specs.Elapsed.{Later, Elapsed, Passed};
 
 // At an hour: the hours since the latest start before it, and since the latest stop; with none, h and the hours passed.
 pub struct Since {
-    pub start: usize,
-    pub stop: usize,
+    pub start: Hour,
+    pub stop: Hour,
 }
 
 // At hour 1.
 pub fn opening(case: Case) -> Since
+    requires { ⌜ Sized case ⌝ }
     ensures { λ r. ⌜ ((l : List ℕ) → Elapsed case l 1 r) ⌝ }
 {
-    let held = case.elapsed.0 as usize;
+    let held = case.elapsed;
     Since {
         start: held,
         stop: held,
@@ -28,52 +30,40 @@ pub fn opening(case: Case) -> Since
 }
 
 // Hours since a mark, at the next hour.
-fn later(hours: usize, mark: usize) -> usize
-    requires { ⌜ hours < 2 ^ 32 ⌝ }
-    ensures { λ r. ⌜ Later hours mark r ⌝ }
+fn later(hours: Hour, mark: u8) -> Hour
+    requires { ⌜ hours .0 < 65535 ⌝ }
+    ensures { λ r. ⌜ Later (hours .0) mark (r .0) ⌝ }
 {
-    if mark == 1 { 1 } else { hours + 1 }
+    if mark == 1 {
+        Hour(1)
+    } else {
+        Hour(hours.0 + 1)
+    }
 }
 
 // At the hour after the one whose numbers are given.
 pub fn passed(since: Since, n: Numbers) -> Since
-    requires { ⌜ (since .start < 2 ^ 32) × (since .stop < 2 ^ 32) ⌝ }
+    requires { ⌜ (since .start .0 < 65535) × (since .stop .0 < 65535) ⌝ }
     ensures { λ r. ⌜ Passed since n r ⌝ }
 {
+    let start = later(since.start, n.marks.start);
+    let stop = later(since.stop, n.marks.stop);
     Since {
-        start: later(since.start, n.start),
-        stop: later(since.stop, n.stop),
+        start: start,
+        stop: stop,
     }
 }
 
-// Rule 21: minimum up time, at a stop.
-pub fn keeps21(case: Case, n: Numbers, since: Since) -> bool
-    ensures { λ r. ⌜ ((l : List ℕ) (k : ℕ) → Numbered case l k n → Elapsed case l k since → r ≡ rule21 case l k) ⌝ }
+// Rules 21 and 22: a minimum time, at the mark that ends it.
+pub fn kept_time(mark: u8, least: Hour, since: Hour) -> bool
+    ensures { λ r. ⌜ r ≡ (eqb mark 0 || leb (least .0) (since .0)) ⌝ }
 {
-    (n.stop == 0) | (case.minup.0 as usize <= since.start)
+    (mark == 0) | (least.0 <= since.0)
 }
 
-// Rule 22: minimum down time, at a start.
-pub fn keeps22(case: Case, n: Numbers, since: Since) -> bool
-    ensures { λ r. ⌜ ((l : List ℕ) (k : ℕ) → Numbered case l k n → Elapsed case l k since → r ≡ rule22 case l k) ⌝ }
+// Rule 23: the order of an hour.
+pub fn kept_order(order: u8, online: u8) -> bool
+    ensures { λ r. ⌜ r ≡ (eqb order 0 || (eqb order 1 && eqb online 1 || eqb order 2 && eqb online 0)) ⌝ }
 {
-    (n.start == 0) | (case.mindown.0 as usize <= since.stop)
-}
-
-// The order of hour k, from 1.
-fn order_at(case: Case, k: usize) -> u8
-    requires { ⌜ (0 < k) × (k ≤ 48) ⌝ }
-    ensures { λ r. ⌜ r ≡ order case k ⌝ }
-{
-    let at = k - 1;
-    case.orders[at]
-}
-
-// Rule 23: the order of hour k.
-pub fn keeps23(case: Case, n: Numbers, k: usize) -> bool
-    requires { ⌜ (0 < k) × (k ≤ 48) ⌝ }
-    ensures { λ r. ⌜ ((l : List ℕ) → Numbered case l k n → r ≡ rule23 case l k) ⌝ }
-{
-    let order = order_at(case, k);
-    (order == 0) | (((order == 1) & (n.online == 1)) | ((order == 2) & (n.online == 0)))
+    (order == 0) | (((order == 1) & (online == 1)) | ((order == 2) & (online == 0)))
 }

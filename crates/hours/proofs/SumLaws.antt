@@ -1,9 +1,10 @@
--- A sum that a loop adds up term by term. Assumes nothing.
+-- A sum that a loop adds up term by term, and the sum of a trajectory where no hour is marked. Assumes nothing.
 use mathlib.Core.Path.{_≡_, sym, ap, _∙_}
 use Prim.Native.Nat.{ℕ, _+_, _*_, _≤_, _<_}
 use native.Mathlib.Omega.{arith}
-use native.Mathlib.Nat.{mul-add, mul-one}
+use native.Mathlib.Nat.{mul-add, mul-one, mul-zero}
 use Rattle.model.specs.Symbols.{sum}
+use Rattle.model.proofs.SymbolsLaws.{sum-zeros, term-le-sum}
 use Rattle.model.proofs.ConstraintsLaws.{sum-zero, sum-more}
 
 -- i of n terms, each at most m, are added up
@@ -27,3 +28,9 @@ module _ {f : ℕ → ℕ} {m n : ℕ} where
 
   pub summed-end : {i total : ℕ} → Summed f m n i total → n ≤ i → total ≡ sum f n
   summed-end {i} {total} s l = s .is ∙ ap (sum f) (omega arith)
+
+-- no hour is marked
+pub sum-unmarked : (g f : ℕ → ℕ) (n : ℕ) → sum f n ≡ 0 → sum (λ i. g i * f i) n ≡ 0
+sum-unmarked g f n e =
+    sum-zeros (λ i. g i * f i) n
+    (λ i a b. ap (λ x. g i * x) (let z : f i ≡ 0 = omega (arith, term-le-sum f n i a b) in z) ∙ mul-zero (g i))

@@ -1,63 +1,72 @@
-// The numbers of an hour of a list: its output, its marks and their sums, each reckoned once (model's specs/Marks and
-// specs/Constraints). Only other crates of this repository call what has a `requires` here, with a case within the
-// limits.
+// The numbers of an hour of a list: its output, its marks, and the sums that the constraints compare (model's
+// specs/Marks and specs/Constraints), each sum of marks the difference of two running counts (specs/Counted). Only other
+// crates of this repository call what has a `requires` here, with a case within the limits.
+pub mod counts;
 pub mod marks;
-pub mod sums;
+pub mod stages;
 
-use crate::marks::online;
+use crate::counts::COUNTS;
+use crate::counts::between;
+use crate::counts::less;
+use crate::marks::Marks;
+use crate::marks::marks_of;
 use crate::marks::output_at;
-use crate::marks::started;
-use crate::marks::stopped;
-use crate::sums::less;
-use crate::sums::start_output;
-use crate::sums::starts;
-use crate::sums::stop_output;
-use crate::sums::stops;
+use crate::stages::Sequence;
+use crate::stages::sequence_at;
 use model::Case;
+use model::Hour;
+use model::Output;
 ghost use Prim.Native.Nat.{_≤_};
 ghost use Rattle.hours.specs.Sized.{Sized};
+ghost use Rattle.hours.specs.Counted.{Counted};
 ghost use Rattle.hours.specs.Numbered.{Numbered};
 
-// Of hour k: outputs in MW, marks, and the sums of marks and outputs that the constraints name.
+// Of hour k.
 pub struct Numbers {
     // p(k) and p(k−1)
-    pub output: usize,
-    pub earlier: usize,
-    // v(k), v(k−1), y(k) and z(k)
-    pub online: usize,
-    pub wasonline: usize,
-    pub start: usize,
-    pub stop: usize,
-    // 1 in the hours of a start-up, 1 in those of a shut-down, and what the two prescribe
-    pub starting: usize,
-    pub stopping: usize,
-    pub startoutput: usize,
-    pub stopoutput: usize,
+    pub output: Output,
+    pub earlier: Output,
+    pub marks: Marks,
+    // the start-up and the shut-down that hour k lies in
+    pub startup: Sequence,
+    pub shutdown: Sequence,
     // stops in DD and in UD + DD − 1 hours from hour k
-    pub falling: usize,
-    pub meeting: usize,
+    pub falling: u8,
+    pub meeting: u8,
 }
 
-// The numbers of hour k.
-pub fn numbers_at(case: Case, list: &[u16], k: usize) -> Numbers
+// The numbers of hour k, by the starts and the stops before each hour.
+pub fn numbers_at(
+    case: Case,
+    list: &[u16],
+    starts: &[u8; COUNTS],
+    stops: &[u8; COUNTS],
+    k: Hour,
+) -> Numbers
     requires { ⌜ Sized case ⌝ }
-    requires { ⌜ k ≤ 48 ⌝ }
-    ensures { λ r. ⌜ Numbered case (now (list .entry)) k r ⌝ }
+    requires { ⌜ k .0 ≤ case .hours ⌝ }
+    requires { ⌜ Counted case (now list) (now starts) (now stops) ⌝ }
+    ensures { λ r. ⌜ Numbered case (now (list .entry)) (k .0) r ⌝ }
 {
-    let earlier = less(k, 1);
-    let meeting = less(case.rises + case.falls, 1);
+    let at = k.0;
+    let rises = case.rises as u16;
+    let falls = case.falls as u16;
+    let rise = case.rise;
+    let fall = case.fall;
+    let fallen = Hour(at + falls);
+    let met = Hour(at + rises + falls - 1);
+    let output = output_at(case, list, k);
+    let earlier = output_at(case, list, less(k, Hour(1)));
+    let marks = marks_of(earlier, output);
+    let startup = sequence_at(rise, case.rises, starts, k);
+    let shutdown = sequence_at(fall, case.falls, stops, fallen);
     Numbers {
-        output: output_at(case, list, k),
-        earlier: output_at(case, list, earlier),
-        online: online(case, list, k),
-        wasonline: online(case, list, earlier),
-        start: started(case, list, k),
-        stop: stopped(case, list, k),
-        starting: starts(case, list, k),
-        stopping: stops(case, list, case.falls, k + 1),
-        startoutput: start_output(case, list, k),
-        stopoutput: stop_output(case, list, k),
-        falling: stops(case, list, case.falls, k),
-        meeting: stops(case, list, meeting, k),
+        output: output,
+        earlier: earlier,
+        marks: marks,
+        startup: startup,
+        shutdown: shutdown,
+        falling: between(stops, k, fallen),
+        meeting: between(stops, k, met),
     }
 }

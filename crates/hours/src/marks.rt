@@ -1,60 +1,56 @@
-// The outputs of a list and the marks v, y and z, hour by hour (model's specs/Marks).
+// The outputs of a list and the marks v, y and z of an hour, by the outputs at its ends (model's specs/Marks).
 use model::Case;
-ghost use Rattle.model.specs.Marks.{p, v, y, z};
-ghost use Rattle.hours.specs.Within.{Within};
+use model::Hour;
+use model::Output;
+ghost use mathlib.Core.Path.{_≡_};
+ghost use Rattle.model.specs.Marks.{p};
+ghost use Rattle.hours.specs.Marked.{onlineOf, changeOf, Marked};
 
-// p(k), in MW.
-pub fn output_at(case: Case, list: &[u16], k: usize) -> usize
-    ensures { λ r. ⌜ Within (p case (now (list .entry)) k) 65535 r ⌝ }
+// 1 where the unit is on-line at the end of an hour and at its beginning, where it starts and where it stops, else 0.
+pub struct Marks {
+    pub online: u8,
+    pub wasonline: u8,
+    pub start: u8,
+    pub stop: u8,
+}
+
+// p(k)
+pub fn output_at(case: Case, list: &[u16], k: Hour) -> Output
+    ensures { λ r. ⌜ r .0 ≡ p case (now (list .entry)) (k .0) ⌝ }
 {
-    if k == 0 {
-        return case.initial.0 as usize;
+    let at = k.0 as usize;
+    if at == 0 {
+        return case.initial;
     }
-    let i = k - 1;
+    let i = at - 1;
     if i < list.len() {
-        return list[i] as usize;
+        return Output(list[i]);
     }
-    0
+    Output(0)
 }
 
-// v(k)
-pub fn online(case: Case, list: &[u16], k: usize) -> usize
-    ensures { λ r. ⌜ Within (v case (now (list .entry)) k) 1 r ⌝ }
+// 1 where the unit is on-line at p.
+fn online(p: Output) -> u8
+    ensures { λ r. ⌜ r ≡ onlineOf (p .0) ⌝ }
 {
-    if 0 < output_at(case, list, k) {
-        return 1;
-    }
-    0
+    if 0 < p.0 { 1 } else { 0 }
 }
 
-// y(k)
-pub fn started(case: Case, list: &[u16], k: usize) -> usize
-    ensures { λ r. ⌜ Within (y case (now (list .entry)) k) 1 r ⌝ }
+// 1 where the unit is off-line at q and on-line at p.
+fn began(q: Output, p: Output) -> u8
+    ensures { λ r. ⌜ r ≡ changeOf (q .0) (p .0) ⌝ }
 {
-    if k == 0 {
-        return 0;
-    }
-    if case.hours < k {
-        return 0;
-    }
-    if online(case, list, k - 1) == 0 {
-        return online(case, list, k);
-    }
-    0
+    if q.0 == 0 { online(p) } else { 0 }
 }
 
-// z(k)
-pub fn stopped(case: Case, list: &[u16], k: usize) -> usize
-    ensures { λ r. ⌜ Within (z case (now (list .entry)) k) 1 r ⌝ }
+// The marks of an hour from output q to p.
+pub fn marks_of(q: Output, p: Output) -> Marks
+    ensures { λ r. ⌜ Marked (q .0) (p .0) r ⌝ }
 {
-    if k == 0 {
-        return 0;
+    Marks {
+        online: online(p),
+        wasonline: online(q),
+        start: began(q, p),
+        stop: began(p, q),
     }
-    if case.hours < k {
-        return 0;
-    }
-    if online(case, list, k) == 0 {
-        return online(case, list, k - 1);
-    }
-    0
 }

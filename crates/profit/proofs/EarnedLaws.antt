@@ -1,34 +1,65 @@
 -- The profit of a day, added up hour by hour, and how large it is. Assumes nothing.
-use mathlib.Core.Path.{_≡_, sym, ap, _∙_}
+use mathlib.Core.Path.{_≡_, refl, sym, ap, _∙_}
 use mathlib.Core.List.{List}
-use Prim.Native.Nat.{ℕ, _+_, _*_, _≤_, _<_, _^_}
+use Prim.Native.Nat.{ℕ, _+_, _*_, _-_, _≤_, _<_, _^_}
 use native.Mathlib.Omega.{arith}
-use lib.IntN.{ℤ, pos, natAbs, _+ℤ_}
+use lib.IntN.{ℤ, pos, natAbs, _+ℤ_, _-ℤ_, _*ℤ_}
+use lib.ListN.{getD}
 use Rattle.laws.proofs.Magnitude.{abs-+}
 use Rattle.model.specs.declared.Case.{Case}
-use Rattle.model.specs.Profit.{profitAt, profitTo, profitOf}
-use Rattle.model.proofs.ProfitLaws.{profitTo-none, profitTo-more, profitOf-is}
-use Rattle.profit.specs.Worth.{Worth}
+use Rattle.model.specs.Symbols.{F, price, last}
+use Rattle.model.specs.Marks.{p, v, y, z}
+use Rattle.model.specs.Profit.{energy, charge, profitAt, profitTo, profitOf}
+use Rattle.model.proofs.CheckLaws.{hourly-at, before-is}
+use Rattle.model.proofs.ProfitLaws.{abs-apart, energy-is, charge-is, profit-of, profitTo-none, profitTo-more, profitOf-is}
+use Rattle.hours.specs.declared.marks.Marks.{Marks}
+use Rattle.hours.specs.Marked.{Marked, onlineOf}
+use Rattle.hours.proofs.MarkLaws.{v-of, y-of, z-of}
+use Rattle.profit.specs.Worth.{Worth, Hourly, chargeOf}
 
--- the hours 1 to k are added up
-pub record Earned (c : Case) (l : List ℕ) (k : ℕ) (total : ℤ) : Type 0 where
+-- what the price of hour k + 1 leaves above F
+pub over-of : (c : Case) (k : ℕ) {a b m : ℤ} → (a ≡ pos (getD (c .prices) k 0)) × (getD (c .prices) k 0 ≤ 65535)
+    → b ≡ pos (F c) → F c ≤ 1000000 → m ≡ a -ℤ b → Worth (pos (price c (k + 1)) -ℤ pos (F c)) 1000000 m
+over-of c k {a} {b} {m} (e, f) g h d =
+    let entry : getD (c .prices) k 0 ≡ price c (k + 1) =
+    ap (λ i. getD (c .prices) i 0) (omega arith) ∙ sym (hourly-at (c .prices) (k + 1) (omega arith)) in
+    let is : m ≡ pos (price c (k + 1)) -ℤ pos (F c) = d ∙ rw (e, g, entry) refl in
+    record { is = is; most = omega (arith, ap natAbs is, abs-apart (price c (k + 1)) (F c) 1000000 (omega arith) h) }
+
+module _ {c : Case} {l : List ℕ} where
+  -- what an hour earns
+  pub hour-of : {k q r : ℕ} {over gain cost : ℤ} {m : Marks} → Hourly c l k over q r → Marked q r m
+      → gain ≡ over *ℤ pos (r + q) → cost ≡ pos (chargeOf c m) → gain -ℤ cost ≡ profitAt c l k
+  unfolding chargeOf
+  hour-of {k} {q} {r} {over} {gain} {cost} {m} h e g w =
+      let energy : r + q ≡ energy c l k =
+      rw (h .is, h .was) (sym (energy-is c l k ∙ ap (λ j. p c l k + p c l j) (before-is k))) in
+      let online : m .online ≡ v c l k = e .online ∙ ap onlineOf (h .is) ∙ sym (v-of c l k) in
+      let start : m .start ≡ y c l k = e .start ∙ rw (h .is, h .was) (sym (y-of c l k (h .part))) in
+      let stop : m .stop ≡ z c l k = e .stop ∙ rw (h .is, h .was) (sym (z-of c l k (h .part))) in
+      profit-of c l k (h .margin) energy g (w ∙ rw (online, start, stop, charge-is c l k) refl)
+
+-- the hours 1 to k are added up; the last ends at output q
+pub record Earned (c : Case) (l : List ℕ) (k : ℕ) (total : ℤ) (q : ℕ) : Type 0 where
   pub is : total ≡ profitTo c l k
   pub most : natAbs total ≤ 2 ^ 38 * k
   pub part : k ≤ c .hours
+  pub was : q ≡ p c l k
 
 module _ {c : Case} {l : List ℕ} where
-  pub earned-start : Earned c l 0 (pos 0)
-  earned-start = record { is = sym (profitTo-none c l); most = omega arith; part = omega arith }
+  pub earned-start : {q : ℕ} → q ≡ p c l 0 → Earned c l 0 (pos 0) q
+  earned-start e = record { is = sym (profitTo-none c l); most = omega arith; part = omega arith; was = e }
 
-  pub earned-step : {k : ℕ} {total : ℤ} (x r : ℤ) → Earned c l k total → k < c .hours
-      → Worth (profitAt c l (k + 1)) (2 ^ 38) x → r ≡ total +ℤ x → Earned c l (k + 1) r
-  earned-step {k} {total} x r h m w e =
+  pub earned-step : {k q : ℕ} {total : ℤ} (x r : ℤ) (s : ℕ) → Earned c l k total q → k < c .hours
+      → Worth (profitAt c l (k + 1)) (2 ^ 38) x → r ≡ total +ℤ x → s ≡ p c l (k + 1) → Earned c l (k + 1) r s
+  earned-step {k} {q} {total} x r s h m w e f =
       record {
         is = (let so = h .is in let here = w .is in cc (profitTo-more c l k));
         most = omega (arith, ap natAbs e, abs-+ total x, h .most, w .most);
         part = omega arith;
+        was = f;
       }
 
-  pub earned-end : {k : ℕ} {total : ℤ} → Earned c l k total → c .hours ≤ k → total ≡ profitOf c l
-  earned-end {k} {total} h m =
+  pub earned-end : {k q : ℕ} {total : ℤ} → Earned c l k total q → c .hours ≤ k → total ≡ profitOf c l
+  earned-end {k} {q} {total} h m =
       h .is ∙ ap (profitTo c l) (let e : k ≡ c .hours = omega (arith, h .part) in e) ∙ sym (profitOf-is c l)

@@ -1,26 +1,35 @@
-// The profit of a list, exact to the half-mill (model's specs/Profit): a day of 48 hours stays below 2^44 half-mills.
-use hours::marks::online;
+// The profit of a list, exact to the half-mill (model's specs/Profit), in one pass over its hours: a day of 48 hours
+// stays below 2^44 half-mills. Only other crates of this repository call what has a `requires` here, with a case within
+// the limits.
+use hours::marks::Marks;
+use hours::marks::marks_of;
 use hours::marks::output_at;
-use hours::marks::started;
-use hours::marks::stopped;
 use model::Case;
 use model::HalfMills;
+use model::Hour;
 use model::Mills;
+use model::Output;
 use money::difference;
 use money::sum;
 ghost use mathlib.Core.Path.{_≡_};
-ghost use Prim.Native.Nat.{_+_, _*_, _≤_, _<_, _^_};
+ghost use mathlib.Core.List.{List};
+ghost use Prim.Native.Nat.{ℕ, _+_, _*_, _≤_, _<_, _^_};
 ghost use lib.IntN.{pos, natAbs, _-ℤ_, _*ℤ_};
-ghost use Rattle.model.specs.Symbols.{F, price};
-ghost use Rattle.model.specs.Profit.{energy, charge, profitAt, profitOf};
-ghost use Rattle.hours.specs.Within.{Within};
-ghost use Rattle.profit.specs.Worth.{Worth, Priced};
+ghost use Rattle.model.specs.Profit.{profitAt, profitOf};
+ghost use Rattle.profit.specs.Worth.{Worth, Priced, Hourly, chargeOf};
 
 // An amount as a case has it.
 fn mills(n: u32) -> Mills
     ensures { λ r. ⌜ r .0 ≡ pos n ⌝ }
 {
     Mills(n as i64)
+}
+
+// A price as a case has it.
+fn price_of(n: u16) -> Mills
+    ensures { λ r. ⌜ (r .0 ≡ pos n) × (n ≤ 65535) ⌝ }
+{
+    mills(n as u32)
 }
 
 // What a price leaves above a cost.
@@ -40,73 +49,54 @@ fn halves(amount: Mills, n: usize) -> HalfMills
     HalfMills(amount.0 * (n as i64))
 }
 
-// The price of hour k, from 1.
-fn price_at(case: Case, k: usize) -> Mills
-    requires { ⌜ (0 < k) × (k ≤ 48) ⌝ }
-    ensures { λ r. ⌜ (r .0 ≡ pos (price case k)) × (price case k ≤ 65535) ⌝ }
+// A charge, where an hour is marked.
+fn charged(amount: Mills, mark: u8) -> HalfMills
+    requires { ⌜ (natAbs (amount .0) ≤ 100000000) × (mark ≤ 1) ⌝ }
+    ensures { λ r. ⌜ Worth (amount .0 *ℤ pos (2 * mark)) 200000000 (r .0) ⌝ }
 {
-    let at = k - 1;
-    mills(case.prices[at] as u32)
+    halves(amount, 2 * (mark as usize))
 }
 
-// A charge, at most once in an hour.
-fn charged(amount: u32, mark: usize) -> HalfMills
-    requires { ⌜ (amount ≤ 100000000) × (mark ≤ 1) ⌝ }
-    ensures { λ r. ⌜ Worth (pos (amount * (2 * mark))) 200000000 (r .0) ⌝ }
-{
-    halves(mills(amount), 2 * mark)
-}
-
-// What hour k costs beside F.
-fn charge_at(case: Case, list: &[u16], k: usize) -> HalfMills
+// What an hour costs beside F, by its marks.
+fn charge_of(case: Case, m: Marks) -> HalfMills
     requires { ⌜ Priced case ⌝ }
-    ensures { λ r. ⌜ Worth (pos (charge case (now (list .entry)) k)) 600000000 (r .0) ⌝ }
+    requires { ⌜ (m .online ≤ 1) × (m .start ≤ 1) × (m .stop ≤ 1) ⌝ }
+    ensures { λ r. ⌜ Worth (pos (chargeOf case m)) 600000000 (r .0) ⌝ }
 {
-    let fixed = charged(case.fixed, online(case, list, k));
-    let startcost = charged(case.startcost, started(case, list, k));
-    let stopcost = charged(case.stopcost, stopped(case, list, k));
+    let fixed = charged(mills(case.fixed), m.online);
+    let startcost = charged(mills(case.startcost), m.start);
+    let stopcost = charged(mills(case.stopcost), m.stop);
     sum(fixed, sum(startcost, stopcost))
 }
 
-// What the price of hour k, from 1, leaves above F.
-fn margin_at(case: Case, k: usize) -> Mills
+// The profit of an hour from output q to p, with what its price leaves above F.
+fn hour_profit(case: Case, over: Mills, q: Output, p: Output) -> HalfMills
     requires { ⌜ Priced case ⌝ }
-    requires { ⌜ (0 < k) × (k ≤ 48) ⌝ }
-    ensures { λ r. ⌜ Worth (pos (price case k) -ℤ pos (F case)) 1000000 (r .0) ⌝ }
+    requires { ⌜ natAbs (over .0) ≤ 1000000 ⌝ }
+    ensures { λ r. ⌜ ((l : List ℕ) (k : ℕ) → Hourly case l k (over .0) (q .0) (p .0)
+        → Worth (profitAt case l k) (2 ^ 38) (r .0)) ⌝ }
 {
-    margin(price_at(case, k), mills(case.variable))
+    let gain = halves(over, (p.0 as usize) + (q.0 as usize));
+    difference(gain, charge_of(case, marks_of(q, p)))
 }
 
-// The energy of hour k, from 1, in half-megawatt-hours.
-fn energy_at(case: Case, list: &[u16], k: usize) -> usize
-    requires { ⌜ 0 < k ⌝ }
-    ensures { λ r. ⌜ Within (energy case (now (list .entry)) k) 131070 r ⌝ }
-{
-    let earlier = k - 1;
-    output_at(case, list, k) + output_at(case, list, earlier)
-}
-
-// The profit of hour k, from 1.
-fn profit_at(case: Case, list: &[u16], k: usize) -> HalfMills
-    requires { ⌜ Priced case ⌝ }
-    requires { ⌜ (0 < k) × (k ≤ 48) ⌝ }
-    ensures { λ r. ⌜ Worth (profitAt case (now (list .entry)) k) (2 ^ 38) (r .0) ⌝ }
-{
-    let gain = halves(margin_at(case, k), energy_at(case, list, k));
-    difference(gain, charge_at(case, list, k))
-}
-
-// The profit of the day, for a list of any length. Only other crates of this repository call it, with a case within the
-// limits.
+// The profit of the day, for a list of any length.
 pub fn profit_of(case: Case, list: &[u16]) -> HalfMills
     requires { ⌜ Priced case ⌝ }
     ensures { λ r. ⌜ Worth (profitOf case (now (list .entry))) (2 ^ 44) (r .0) ⌝ }
 {
+    let prices = case.prices;
+    let cost = mills(case.variable);
     let mut total = HalfMills(0);
+    let mut was = case.initial;
+    let hours = case.hours;
     let mut k = 0;
-    while k < case.hours {
+    while k < hours {
+        let over = margin(price_of(prices[k]), cost);
         k += 1;
-        total = sum(total, profit_at(case, list, k));
+        let is = output_at(case, list, Hour(k as u16));
+        total = sum(total, hour_profit(case, over, was, is));
+        was = is;
     }
     total
 }

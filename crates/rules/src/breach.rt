@@ -1,30 +1,39 @@
-// The first breach of a day: the earliest hour, hour 0 included, and there the lowest rule (model's specs/Rules).
+// The first breach of a day: the earliest hour, hour 0 included, and there the lowest rule (model's specs/Rules). The
+// starts and stops of the list are counted once.
 use broken::broken_at;
 use broken::broken_edge;
 use broken::times::opening;
 use broken::times::passed;
+use hours::counts::COUNTS;
+use hours::counts::count_marks;
 use hours::numbers_at;
 use model::Breach;
 use model::Case;
 use model::Hour;
 ghost use mathlib.Core.Path.{_≡_};
+ghost use lib.ListN.{length};
 ghost use Rattle.model.specs.Rules.{breachFrom, breach};
 ghost use Rattle.hours.specs.Sized.{Sized};
+ghost use Rattle.hours.specs.Counted.{Counted};
 ghost use Rattle.rules.specs.Found.{found};
 
 // The first breach of the hours from 1 on; its rule is 0 where there is none.
-fn later_breach(case: Case, list: &[u16]) -> Breach
+fn later_breach(case: Case, list: &[u16], starts: &[u8; COUNTS], stops: &[u8; COUNTS]) -> Breach
     requires { ⌜ Sized case ⌝ }
+    requires { ⌜ Counted case (now list) (now starts) (now stops) ⌝ }
     ensures { λ r. ⌜ breachFrom case (now (list .entry)) 1 (case .hours) ≡ found r ⌝ }
 {
+    let orders = case.orders;
+    let hours = case.hours;
     let mut since = opening(case);
     let mut k = 1;
-    while k <= case.hours {
-        let n = numbers_at(case, list, k);
-        let rule = broken_at(case, n, since, k);
+    while k <= hours {
+        let hour = Hour(k as u16);
+        let n = numbers_at(case, list, starts, stops, hour);
+        let rule = broken_at(case, n, since, orders[k - 1]);
         if rule != 0 {
             return Breach {
-                hour: Hour(k as u16),
+                hour: hour,
                 rule: rule,
             };
         }
@@ -37,17 +46,21 @@ fn later_breach(case: Case, list: &[u16]) -> Breach
     }
 }
 
-// The first breach of the day; its rule is 0 where there is none.
+// The first breach of the day, for a list of T outputs; its rule is 0 where there is none.
 pub fn first_breach(case: Case, list: &[u16]) -> Breach
     requires { ⌜ Sized case ⌝ }
+    requires { ⌜ length (now list) ≡ case .hours ⌝ }
     ensures { λ r. ⌜ breach case (now (list .entry)) ≡ found r ⌝ }
 {
-    let edge = broken_edge(case, numbers_at(case, list, 0));
+    let mut starts = [0u8; COUNTS];
+    let mut stops = [0u8; COUNTS];
+    count_marks(case, list, &mut starts, &mut stops);
+    let edge = broken_edge(case, numbers_at(case, list, &starts, &stops, Hour(0)));
     if edge != 0 {
         return Breach {
             hour: Hour(0),
             rule: edge,
         };
     }
-    later_breach(case, list)
+    later_breach(case, list, &starts, &stops)
 }

@@ -1,7 +1,7 @@
 // The check of a list of hourly outputs: refused, or passing with its profit, or the first hour and rule that it breaks
 // (model's specs/Answers say which). A refused reading is answered by its number. The record of an accepted one is
 // tested again, 2 to 8, so that no reading has to be trusted; then 9, for a list that is not of T outputs. The work
-// grows with the hours times the trajectories' lengths. The list is only read.
+// grows with the hours, and in the hours of a start-up or a shut-down with its trajectory. The list is only read.
 mod breach;
 
 use breach::first_breach;
@@ -12,6 +12,7 @@ use model::Reading;
 use model::Verdict;
 use profit::profit_of;
 ghost use mathlib.Core.Path.{_≡_};
+ghost use lib.ListN.{length};
 ghost use Rattle.model.specs.Rules.{breach};
 ghost use Rattle.model.specs.Refusals.{refusalOf};
 ghost use Rattle.model.specs.Answers.{outcomeNumber, judged, checkOf};
@@ -19,6 +20,7 @@ ghost use Rattle.model.specs.Answers.{outcomeNumber, judged, checkOf};
 // The verdict of a list, for a record within the limits.
 fn judge(case: Case, list: &[u16]) -> Verdict
     requires { ⌜ refusalOf case ≡ 0 ⌝ }
+    requires { ⌜ length (now list) ≡ case .hours ⌝ }
     ensures { λ r. ⌜ r ≡ judged case (now (list .entry)) (breach case (now (list .entry))) ⌝ }
 {
     let found = first_breach(case, list);

@@ -1,56 +1,35 @@
--- `broken::broken_commitment` meets its contract: the tests are tried in turn. Assumes nothing.
+-- `broken::broken_commitment` meets its contract: each test is its rule, and the first that fails has its number. Assumes
+-- nothing.
 use borrow.Author.Needs.{needs}
-use Rattle.broken.proofs.FirstLaws.{kept, fails, holds, first}
+use Rattle.broken.proofs.FirstLaws.{rest, next, tried}
+use Rattle.broken.proofs.NumbersLaws.{rule7-of, rule8-of, rule9-of}
 use Rattle.broken.proofs.broken_commitment.Statement.{statement}
 use Rattle.broken.proofs.broken_commitment.Tie as tie
 
-keeps7-requires : tie.Need-keeps7-requires
-keeps7-requires c κs = search needs
+first-requires : tie.Need-first-requires
+first-requires c κs = search needs
+
+first-requires-2 : tie.Need-first-requires-2
+first-requires-2 c κs = search needs
+
+add-first : tie.Need-add-first
+add-first c = search needs
+
+add-first-2 : tie.Need-add-first-2
+add-first-2 c = search needs
+
+first-requires-3 : tie.Need-first-requires-3
+first-requires-3 c κs = search needs
 
 returns : tie.Need-returns
 returns c =
-    λ m l k h. first
-    (fails (c .before .keeps7 .ensures m l k h) (c .if1 .taken))
-
-keeps8-requires : tie.Need-keeps8-requires
-keeps8-requires c κs = search needs
-
-returns-2 : tie.Need-returns-2
-returns-2 c =
-    let d = c .before .before in
-    λ m l k h. first
-    (holds (d .before .keeps7 .ensures m l k h) (d .if1 .left)
-    (fails (c .before .keeps8 .ensures m l k h) (c .if2 .taken)))
-
-keeps9-requires : tie.Need-keeps9-requires
-keeps9-requires c κs = search needs
-
-returns-3 : tie.Need-returns-3
-returns-3 c =
-    let d = c .before .before in
-    let e = d .before .before in
-    λ m l k h. first
-    (holds (e .before .keeps7 .ensures m l k h) (e .if1 .left)
-    (holds (d .before .keeps8 .ensures m l k h) (d .if2 .left)
-    (fails (c .before .keeps9 .ensures m l k h) (c .if3 .taken))))
-
-returns-4 : tie.Need-returns-4
-returns-4 c =
-    let d = c .before .before in
-    let e = d .before .before in
-    λ m l k h. first
-    (holds (e .before .keeps7 .ensures m l k h) (e .if1 .left)
-    (holds (d .before .keeps8 .ensures m l k h) (d .if2 .left)
-    (holds (c .before .keeps9 .ensures m l k h) (c .if3 .left) kept)))
+    let eight = c .before .before .before in
+    let nine = eight .before .before .before in
+    λ m l k rs h e. tried
+    (next (c .first3 .ensures) (rule7-of h)
+    (next (eight .first2 .ensures) (rule8-of h) (next (nine .first .ensures) (rule9-of h) (rest e))))
 
 pub broken-commitment-spec : {M : Type 1} → statement M
 broken-commitment-spec =
     tie.close
-    (tie.spec
-    keeps7-requires
-    returns
-    keeps8-requires
-    returns-2
-    keeps9-requires
-    returns-3
-    returns-4)
+    (tie.spec first-requires first-requires-2 add-first add-first-2 first-requires-3 returns)

@@ -1,74 +1,57 @@
--- `broken::broken_limit` meets its contract: the tests are tried in turn. Assumes nothing.
+-- `broken::broken_limit` meets its contract: each test is its rule, and the first that fails has its number. Assumes
+-- nothing.
 use borrow.Author.Needs.{needs}
-use Rattle.broken.proofs.FirstLaws.{kept, fails, holds, first}
+use mathlib.Core.Path.{_∙_}
+use Rattle.broken.proofs.FirstLaws.{rest, next, tried}
+use Rattle.broken.proofs.NumbersLaws.{rule1-of, rule2-of, rule3-of, rule4-of}
 use Rattle.broken.proofs.broken_limit.Statement.{statement}
 use Rattle.broken.proofs.broken_limit.Tie as tie
 
-keeps1-requires : tie.Need-keeps1-requires
-keeps1-requires c κs = search needs
+below-most-requires : tie.Need-below-most-requires
+below-most-requires c κs = search needs
+
+first-requires : tie.Need-first-requires
+first-requires c κs = search needs
+
+below-most-requires-2 : tie.Need-below-most-requires-2
+below-most-requires-2 c κs = search needs
+
+first-requires-2 : tie.Need-first-requires-2
+first-requires-2 c κs = search needs
+
+above-least-requires : tie.Need-above-least-requires
+above-least-requires c κs = search needs
+
+first-requires-3 : tie.Need-first-requires-3
+first-requires-3 c κs = search needs
+
+above-least-requires-2 : tie.Need-above-least-requires-2
+above-least-requires-2 c κs = search needs
+
+first-requires-4 : tie.Need-first-requires-4
+first-requires-4 c κs = search needs
 
 returns : tie.Need-returns
 returns c =
-    λ l k h. first
-    (fails (c .before .keeps1 .ensures l k h) (c .if1 .taken))
-
-keeps2-requires : tie.Need-keeps2-requires
-keeps2-requires c κs = search needs
-
-returns-2 : tie.Need-returns-2
-returns-2 c =
-    let d = c .before .before in
-    λ l k h. first
-    (holds (d .before .keeps1 .ensures l k h) (d .if1 .left)
-    (fails (c .before .keeps2 .ensures l k h) (c .if2 .taken)))
-
-keeps3-requires : tie.Need-keeps3-requires
-keeps3-requires c κs = search needs
-
-returns-3 : tie.Need-returns-3
-returns-3 c =
-    let d = c .before .before in
-    let e = d .before .before in
-    λ l k h. first
-    (holds (e .before .keeps1 .ensures l k h) (e .if1 .left)
-    (holds (d .before .keeps2 .ensures l k h) (d .if2 .left)
-    (fails (c .before .keeps3 .ensures l k h) (c .if3 .taken))))
-
-keeps4-requires : tie.Need-keeps4-requires
-keeps4-requires c κs = search needs
-
-returns-4 : tie.Need-returns-4
-returns-4 c =
-    let d = c .before .before in
-    let e = d .before .before in
-    let f = e .before .before in
-    λ l k h. first
-    (holds (f .before .keeps1 .ensures l k h) (f .if1 .left)
-    (holds (e .before .keeps2 .ensures l k h) (e .if2 .left)
-    (holds (d .before .keeps3 .ensures l k h) (d .if3 .left)
-    (fails (c .before .keeps4 .ensures l k h) (c .if4 .taken)))))
-
-returns-5 : tie.Need-returns-5
-returns-5 c =
-    let d = c .before .before in
-    let e = d .before .before in
-    let f = e .before .before in
-    λ l k h. first
-    (holds (f .before .keeps1 .ensures l k h) (f .if1 .left)
-    (holds (e .before .keeps2 .ensures l k h) (e .if2 .left)
-    (holds (d .before .keeps3 .ensures l k h) (d .if3 .left)
-    (holds (c .before .keeps4 .ensures l k h) (c .if4 .left) kept))))
+    let two = c .before .before in
+    let three = two .before .before in
+    let four = three .before .before in
+    λ l k rs h e. tried
+    (next (c .first4 .ensures) (c .before .above-least2 .ensures ∙ rule1-of h)
+    (next (two .first3 .ensures) (two .before .above-least .ensures ∙ rule2-of h)
+    (next (three .first2 .ensures) (three .before .below-most2 .ensures ∙ rule3-of h)
+    (next (four .first .ensures) (four .before .below-most .ensures ∙ rule4-of h) (rest e)))))
 
 pub broken-limit-spec : {M : Type 1} → statement M
 broken-limit-spec =
     tie.close
     (tie.spec
-    keeps1-requires
-    returns
-    keeps2-requires
-    returns-2
-    keeps3-requires
-    returns-3
-    keeps4-requires
-    returns-4
-    returns-5)
+    below-most-requires
+    first-requires
+    below-most-requires-2
+    first-requires-2
+    above-least-requires
+    first-requires-3
+    above-least-requires-2
+    first-requires-4
+    returns)

@@ -1,60 +1,45 @@
--- `broken::broken_overlap` meets its contract: the tests are tried in turn. Assumes nothing.
+-- `broken::broken_overlap` meets its contract: each test is its rule, and the first that fails has its number. Assumes
+-- nothing.
 use borrow.Author.Needs.{needs}
-use Rattle.broken.proofs.FirstLaws.{kept, fails, holds, first}
+use mathlib.Core.Path.{_∙_}
+use Rattle.broken.proofs.FirstLaws.{rest, next, tried}
+use Rattle.broken.proofs.NumbersLaws.{rule10-of, rule11-of, rule12-of}
 use Rattle.broken.proofs.broken_overlap.Statement.{statement}
 use Rattle.broken.proofs.broken_overlap.Tie as tie
 
-keeps10-requires : tie.Need-keeps10-requires
-keeps10-requires c κs = search needs
+meets-low-requires : tie.Need-meets-low-requires
+meets-low-requires c κs = search needs
+
+first-requires : tie.Need-first-requires
+first-requires c κs = search needs
+
+first-requires-2 : tie.Need-first-requires-2
+first-requires-2 c κs = search needs
+
+add-first : tie.Need-add-first
+add-first c = search needs
+
+first-requires-3 : tie.Need-first-requires-3
+first-requires-3 c κs = search needs
 
 returns : tie.Need-returns
 returns c =
-    let a = c .before .before .args in
-    λ l k h. first
-    (fails (c .before .keeps10 .ensures (a .case) l k h) (c .if1 .taken))
-
-keeps11-requires : tie.Need-keeps11-requires
-keeps11-requires c κs = search needs
-
-returns-2 : tie.Need-returns-2
-returns-2 c =
-    let d = c .before .before in
-    let a = d .before .before .args in
-    λ l k h. first
-    (holds (d .before .keeps10 .ensures (a .case) l k h) (d .if1 .left)
-    (fails (c .before .keeps11 .ensures l k h) (c .if2 .taken)))
-
-keeps12-requires : tie.Need-keeps12-requires
-keeps12-requires c κs = search needs
-
-returns-3 : tie.Need-returns-3
-returns-3 c =
-    let d = c .before .before in
-    let e = d .before .before in
-    let a = e .before .before .args in
-    λ l k h. first
-    (holds (e .before .keeps10 .ensures (a .case) l k h) (e .if1 .left)
-    (holds (d .before .keeps11 .ensures l k h) (d .if2 .left)
-    (fails (c .before .keeps12 .ensures l k h) (c .if3 .taken))))
-
-returns-4 : tie.Need-returns-4
-returns-4 c =
-    let d = c .before .before in
-    let e = d .before .before in
-    let a = e .before .before .args in
-    λ l k h. first
-    (holds (e .before .keeps10 .ensures (a .case) l k h) (e .if1 .left)
-    (holds (d .before .keeps11 .ensures l k h) (d .if2 .left)
-    (holds (c .before .keeps12 .ensures l k h) (c .if3 .left) kept)))
+    let eleven = c .before .before in
+    let twelve = eleven .before in
+    let met = twelve .before .meets-low .ensures in
+    let sized = twelve .before .before .pre .0 in
+    λ l k rs h e. tried
+    (next (c .first3 .ensures) (rule10-of h)
+    (next (eleven .first2 .ensures) (met ∙ rule11-of h sized)
+    (next (twelve .first .ensures) (met ∙ rule12-of h sized) (rest e))))
 
 pub broken-overlap-spec : {M : Type 1} → statement M
 broken-overlap-spec =
     tie.close
     (tie.spec
-    keeps10-requires
-    returns
-    keeps11-requires
-    returns-2
-    keeps12-requires
-    returns-3
-    returns-4)
+    meets-low-requires
+    first-requires
+    first-requires-2
+    add-first
+    first-requires-3
+    returns)

@@ -1,33 +1,32 @@
--- `broken::broken_ramp` meets its contract: the tests are tried in turn. Assumes nothing.
+-- `broken::broken_ramp` meets its contract: each test is its rule, and the first that fails has its number. Assumes
+-- nothing.
 use borrow.Author.Needs.{needs}
-use Rattle.broken.proofs.FirstLaws.{kept, fails, holds, first}
+use mathlib.Core.Path.{_∙_}
+use Rattle.broken.proofs.FirstLaws.{rest, next, tried}
+use Rattle.broken.proofs.NumbersLaws.{rule5-of, rule6-of}
 use Rattle.broken.proofs.broken_ramp.Statement.{statement}
 use Rattle.broken.proofs.broken_ramp.Tie as tie
 
-keeps5-requires : tie.Need-keeps5-requires
-keeps5-requires c κs = search needs
+within-ramp-requires : tie.Need-within-ramp-requires
+within-ramp-requires c κs = search needs
+
+within-ramp-requires-2 : tie.Need-within-ramp-requires-2
+within-ramp-requires-2 c κs = search needs
+
+first-requires : tie.Need-first-requires
+first-requires c κs = search needs
+
+first-requires-2 : tie.Need-first-requires-2
+first-requires-2 c κs = search needs
 
 returns : tie.Need-returns
 returns c =
-    λ l k h. first
-    (fails (c .before .keeps5 .ensures l k h) (c .if1 .taken))
-
-keeps6-requires : tie.Need-keeps6-requires
-keeps6-requires c κs = search needs
-
-returns-2 : tie.Need-returns-2
-returns-2 c =
-    let d = c .before .before in
-    λ l k h. first
-    (holds (d .before .keeps5 .ensures l k h) (d .if1 .left)
-    (fails (c .before .keeps6 .ensures l k h) (c .if2 .taken)))
-
-returns-3 : tie.Need-returns-3
-returns-3 c =
-    let d = c .before .before in
-    λ l k h. first
-    (holds (d .before .keeps5 .ensures l k h) (d .if1 .left)
-    (holds (c .before .keeps6 .ensures l k h) (c .if2 .left) kept))
+    let up = c .before .before in
+    λ l k rs h e. tried
+    (next (c .first2 .ensures) (up .within-ramp2 .ensures ∙ rule5-of h)
+    (next (c .before .first .ensures) (up .before .within-ramp .ensures ∙ rule6-of h) (rest e)))
 
 pub broken-ramp-spec : {M : Type 1} → statement M
-broken-ramp-spec = tie.close (tie.spec keeps5-requires returns keeps6-requires returns-2 returns-3)
+broken-ramp-spec =
+    tie.close
+    (tie.spec within-ramp-requires within-ramp-requires-2 first-requires first-requires-2 returns)

@@ -1,60 +1,48 @@
--- `broken::broken_terms` meets its contract: the tests are tried in turn. Assumes nothing.
+-- `broken::broken_terms` meets its contract: each test is its rule, and the first that fails has its number. Assumes
+-- nothing.
 use borrow.Author.Needs.{needs}
-use Rattle.broken.proofs.FirstLaws.{kept, fails, holds, first}
+use mathlib.Core.Path.{_∙_, sym}
+use Rattle.model.proofs.CheckLaws.{brokenOf-none}
+use Rattle.broken.proofs.FirstLaws.{rest, next, tried}
+use Rattle.broken.proofs.NumbersLaws.{rule21-of, rule22-of, rule23-of}
 use Rattle.broken.proofs.broken_terms.Statement.{statement}
 use Rattle.broken.proofs.broken_terms.Tie as tie
 
-keeps21-requires : tie.Need-keeps21-requires
-keeps21-requires c κs = search needs
+kept-order-requires : tie.Need-kept-order-requires
+kept-order-requires c κs = search needs
+
+first-requires : tie.Need-first-requires
+first-requires c κs = search needs
+
+kept-time-requires : tie.Need-kept-time-requires
+kept-time-requires c κs = search needs
+
+first-requires-2 : tie.Need-first-requires-2
+first-requires-2 c κs = search needs
+
+kept-time-requires-2 : tie.Need-kept-time-requires-2
+kept-time-requires-2 c κs = search needs
+
+first-requires-3 : tie.Need-first-requires-3
+first-requires-3 c κs = search needs
 
 returns : tie.Need-returns
 returns c =
-    let a = c .before .before .args in
-    λ l m s. first
-    (fails (c .before .keeps21 .ensures l (a .k) m s) (c .if1 .taken))
-
-keeps22-requires : tie.Need-keeps22-requires
-keeps22-requires c κs = search needs
-
-returns-2 : tie.Need-returns-2
-returns-2 c =
-    let d = c .before .before in
-    let a = d .before .before .args in
-    λ l m s. first
-    (holds (d .before .keeps21 .ensures l (a .k) m s) (d .if1 .left)
-    (fails (c .before .keeps22 .ensures l (a .k) m s) (c .if2 .taken)))
-
-keeps23-requires : tie.Need-keeps23-requires
-keeps23-requires c κs = search needs
-
-returns-3 : tie.Need-returns-3
-returns-3 c =
-    let d = c .before .before in
-    let e = d .before .before in
-    let a = e .before .before .args in
-    λ l m s. first
-    (holds (e .before .keeps21 .ensures l (a .k) m s) (e .if1 .left)
-    (holds (d .before .keeps22 .ensures l (a .k) m s) (d .if2 .left)
-    (fails (c .before .keeps23 .ensures l m) (c .if3 .taken))))
-
-returns-4 : tie.Need-returns-4
-returns-4 c =
-    let d = c .before .before in
-    let e = d .before .before in
-    let a = e .before .before .args in
-    λ l m s. first
-    (holds (e .before .keeps21 .ensures l (a .k) m s) (e .if1 .left)
-    (holds (d .before .keeps22 .ensures l (a .k) m s) (d .if2 .left)
-    (holds (c .before .keeps23 .ensures l m) (c .if3 .left) kept)))
+    let down = c .before .before in
+    let ordered = down .before .before in
+    λ l k h e o. tried
+    (next (c .first3 .ensures) (c .before .kept-time2 .ensures ∙ rule21-of h e)
+    (next (down .first2 .ensures) (down .before .kept-time .ensures ∙ rule22-of h e)
+    (next (ordered .first .ensures) (ordered .before .kept-order .ensures ∙ rule23-of h o) (rest (sym (brokenOf-none k))))))
 
 pub broken-terms-spec : {M : Type 1} → statement M
 broken-terms-spec =
     tie.close
     (tie.spec
-    keeps21-requires
-    returns
-    keeps22-requires
-    returns-2
-    keeps23-requires
-    returns-3
-    returns-4)
+    kept-order-requires
+    first-requires
+    kept-time-requires
+    first-requires-2
+    kept-time-requires-2
+    first-requires-3
+    returns)

@@ -2,124 +2,145 @@
 use borrow.Author.Needs.{needs}
 use native.Mathlib.Omega.{arith}
 use mathlib.Core.Path.{_≡_, _∙_, sym, ap}
+use Prim.Native.Nat.{_+_, _-_}
 use Rattle.model.specs.Symbols.{before}
-use Rattle.model.specs.Marks.{p, v}
+use Rattle.model.specs.Marks.{p, v, y, z}
 use Rattle.model.specs.Constraints.{stopsWithin}
-use Rattle.model.proofs.ConstraintsLaws.{stopping-is}
+use Rattle.model.proofs.ConstraintsLaws.{starting-is, startOutput-is, stopOutput-is}
 use Rattle.model.proofs.CheckLaws.{before-is}
+use Rattle.hours.specs.Marked.{onlineOf}
+use Rattle.hours.specs.Counted.{counted}
+use Rattle.hours.proofs.MarkLaws.{v-of, y-of, z-of, marked-single}
+use Rattle.hours.proofs.NumbersLaws.{stops-are, stopping-are}
 use Rattle.hours.proofs.numbers_at.Statement.{statement}
 use Rattle.hours.proofs.numbers_at.Tie as tie
 
-less-requires : tie.Need-less-requires
-less-requires c κs = search needs
+cast-rises : tie.Need-cast-rises
+cast-rises c = search needs
 
-add-less : tie.Need-add-less
-add-less c = search needs
+cast-falls : tie.Need-cast-falls
+cast-falls c = search needs
 
-less-requires-2 : tie.Need-less-requires-2
-less-requires-2 c κs = search needs
+add-t18 : tie.Need-add-t18
+add-t18 c = search needs
+
+add-t18-2 : tie.Need-add-t18-2
+add-t18-2 c = search needs
+
+add-t19 : tie.Need-add-t19
+add-t19 c = search needs
+
+sub-t20 : tie.Need-sub-t20
+sub-t20 c = search needs
 
 output-at-requires : tie.Need-output-at-requires
 output-at-requires c κs = search needs
 
+less-requires : tie.Need-less-requires
+less-requires c κs = search needs
+
 output-at-requires-2 : tie.Need-output-at-requires-2
 output-at-requires-2 c κs = search needs
 
-online-requires : tie.Need-online-requires
-online-requires c κs = search needs
+marks-of-requires : tie.Need-marks-of-requires
+marks-of-requires c κs = search needs
 
-online-requires-2 : tie.Need-online-requires-2
-online-requires-2 c κs = search needs
+sequence-at-requires : tie.Need-sequence-at-requires
+sequence-at-requires c κs =
+    let four = c .before .before .before .before in
+    let s = four .before .before .before .before .before in
+    let (sized, (hour, counted)) = s .pre in
+    (sized .rise, (omega (arith, sized .hours), (y (s .args .case) (s .args .list .now), counted .starts)))
 
-started-requires : tie.Need-started-requires
-started-requires c κs = search needs
+sequence-at-requires-2 : tie.Need-sequence-at-requires-2
+sequence-at-requires-2 c κs =
+    let five = c .before .before .before .before .before in
+    let s = five .before .before .before .before .before in
+    let (sized, (hour, counted)) = s .pre in (
+      sized .fall,
+      (omega (arith, sized .hours, sized .fall .count), (z (s .args .case) (s .args .list .now), counted .stops)),
+    )
 
-stopped-requires : tie.Need-stopped-requires
-stopped-requires c κs = search needs
+between-requires : tie.Need-between-requires
+between-requires c κs =
+    let six = c .before .before .before .before .before .before in
+    let s = six .before .before .before .before .before in
+    let (sized, (hour, counted)) = s .pre in
+    (omega (arith, sized .hours, sized .fall .count), (z (s .args .case) (s .args .list .now), counted .stops))
 
-starts-requires : tie.Need-starts-requires
-starts-requires c κs = search needs
-
-add-stops : tie.Need-add-stops
-add-stops c = search needs
-
-stops-requires : tie.Need-stops-requires
-stops-requires c κs = search needs
-
-start-output-requires : tie.Need-start-output-requires
-start-output-requires c κs = search needs
-
-stop-output-requires : tie.Need-stop-output-requires
-stop-output-requires c κs = search needs
-
-stops-requires-2 : tie.Need-stops-requires-2
-stops-requires-2 c κs =
-    let two = c .before .before .before .before .before .before .before .before .before .before in
-    omega (arith, two .before .before .before .before .pre)
-
-stops-requires-3 : tie.Need-stops-requires-3
-stops-requires-3 c κs =
-    let two = c .before .before .before .before .before .before .before .before .before .before .before in
-    omega (arith, two .before .before .before .before .pre, two .less2 .ensures)
+between-requires-2 : tie.Need-between-requires-2
+between-requires-2 c κs =
+    let seven = c .before .before .before .before .before .before .before in
+    let s = seven .before .before .before .before .before in
+    let (sized, (hour, counted)) = s .pre in (
+      omega (arith, sized .hours, sized .fall .count, sized .rise .count, sized .rise .some),
+      (z (s .args .case) (s .args .list .now), counted .stops),
+    )
 
 returns : tie.Need-returns
 returns c =
-    let f = c .before .before .before .before in
-    let e = f .before .before .before .before in
-    let d = e .before .before .before in
-    let start = d .before .before .before .before .before in
-    let pre = start .pre in
-    let a = start .args in
-    let hour : d .before .before .before .less .result ≡ before (a .k) =
-    d .before .before .before .less .ensures ∙ sym (before-is (a .k)) in
+    let shut = c .before .before in
+    let up = shut .before in
+    let marks = up .before in
+    let was = marks .before in
+    let is = was .before .before in
+    let s = is .before .before .before .before .before .before in
+    let case = s .args .case in
+    let l = s .args .list .now in
+    let k = s .args .k .0 in
+    let (sized, (hour, counts)) = s .pre in
+    let earlier : was .output-at2 .result .0 ≡ p case l (k - 1) =
+    was .output-at2 .ensures ∙ ap (p case l) (was .before .less .ensures) in
+    let output = is .output-at .ensures in
+    let met : k + case .rises + case .falls - 1 ≡ k + (case .rises + case .falls - 1) = omega (arith, sized .rise .some) in
+    let m = marks .marks-of .ensures in
+    let single = marked-single m in
+    let start = up .sequence-at .ensures (y case l) (counts .starts) in
+    let stop = shut .sequence-at2 .ensures (z case l) (counts .stops) in
+    let falling = c .before .between .ensures (z case l) (counts .stops) in
+    let meeting = c .between2 .ensures (z case l) (counts .stops) in
     record {
       small = record {
-        output = d .output-at .ensures .most;
-        earlier = e .before .before .output-at2 .ensures .most;
-        online = e .before .online .ensures .most;
-        wasonline = e .online2 .ensures .most;
-        start = f .before .before .before .started .ensures .most;
-        stop = f .before .before .stopped .ensures .most;
-        starting = f .before .starts .ensures .most;
-        stopping = omega (arith, f .stops .ensures .most, pre);
-        startoutput = c .before .before .before .start-output .ensures .most;
-        stopoutput = c .before .before .stop-output .ensures .most;
-        falling = omega (arith, c .before .stops2 .ensures .most, pre);
-        meeting = omega (arith, c .stops3 .ensures .most, pre, d .before .less2 .ensures);
+        online = single .online;
+        wasonline = single .wasonline;
+        start = single .start;
+        stop = single .stop;
+        starting = omega (arith, start .most, sized .rise .count);
+        stopping = omega (arith, stop .most, sized .fall .count);
+        falling = omega (arith, falling .most, sized .fall .count);
+        meeting = omega (arith, meeting .most, sized .fall .count, sized .rise .count);
       };
-      output = d .output-at .ensures .is;
-      earlier = e .before .before .output-at2 .ensures .is ∙ ap (p (a .case) (a .list .now)) hour;
-      online = e .before .online .ensures .is;
-      wasonline = e .online2 .ensures .is ∙ ap (v (a .case) (a .list .now)) hour;
-      start = f .before .before .before .started .ensures .is;
-      stop = f .before .before .stopped .ensures .is;
-      starting = f .before .starts .ensures .is;
-      stopping = rw (stopping-is (a .case) (a .list .now) (a .k)) (f .stops .ensures .is);
-      startoutput = c .before .before .before .start-output .ensures .is;
-      stopoutput = c .before .before .stop-output .ensures .is;
-      falling = c .before .stops2 .ensures .is;
-      meeting = c .stops3 .ensures .is
-          ∙ ap (λ n. stopsWithin (a .case) (a .list .now) n (a .k)) (d .before .less2 .ensures);
+      output = output;
+      earlier = earlier ∙ ap (p case l) (sym (before-is k));
+      online = m .online ∙ ap onlineOf output ∙ sym (v-of case l k);
+      wasonline = m .wasonline ∙ ap onlineOf earlier ∙ sym (v-of case l (k - 1)) ∙ ap (v case l) (sym (before-is k));
+      start = m .start ∙ rw (earlier, output) (sym (y-of case l k hour));
+      stop = m .stop ∙ rw (earlier, output) (sym (z-of case l k hour));
+      starting = start .marks ∙ sym (starting-is case l k);
+      stopping = stop .marks ∙ stopping-are case l k;
+      startoutput = start .output ∙ sym (startOutput-is case l k);
+      stopoutput = stop .output ∙ sym (stopOutput-is case l k);
+      falling = falling .is ∙ stops-are case l k (case .falls);
+      meeting = meeting .is ∙ ap (λ j. counted (z case l) j - counted (z case l) k) met
+          ∙ stops-are case l k (case .rises + case .falls - 1);
     }
 
 pub numbers-at-spec : {M : Type 1} → statement M
 numbers-at-spec =
     tie.close
     (tie.spec
-    less-requires
-    add-less
-    less-requires-2
+    cast-rises
+    cast-falls
+    add-t18
+    add-t18-2
+    add-t19
+    sub-t20
     output-at-requires
+    less-requires
     output-at-requires-2
-    online-requires
-    online-requires-2
-    started-requires
-    stopped-requires
-    starts-requires
-    add-stops
-    stops-requires
-    start-output-requires
-    stop-output-requires
-    stops-requires-2
-    stops-requires-3
+    marks-of-requires
+    sequence-at-requires
+    sequence-at-requires-2
+    between-requires
+    between-requires-2
     returns)

@@ -1,41 +1,110 @@
--- `profit::profit_of` meets its contract: the hours are added up one by one. Assumes nothing.
+-- `profit::profit_of` meets its contract: the hours are added up. Assumes nothing.
 use borrow.Author.Needs.{needs}
 use native.Mathlib.Omega.{arith}
-use Prim.Native.Nat.{_-_}
-use Rattle.profit.proofs.EarnedLaws.{Earned, earned-start, earned-step, earned-end}
+use mathlib.Core.Path.{_≡_, sym, ap, _∙_}
+use Prim.Native.Nat.{_+_, _-_}
+use lib.IntN.{pos, natAbs, _-ℤ_}
+use Rattle.model.specs.Symbols.{F, price}
+use Rattle.model.specs.Marks.{p}
+use Rattle.model.proofs.MarksLaws.{p-zero}
+use Rattle.profit.specs.Worth.{Worth, Hourly}
+use Rattle.profit.proofs.EarnedLaws.{over-of, Earned, earned-start, earned-step, earned-end}
 use Rattle.profit.proofs.profit_of.Statement.{statement}
 use Rattle.profit.proofs.profit_of.Tie as tie
 
 abbrev Inv-loop : tie.InvT-loop
-Inv-loop case list total₀ k₀ total k = Earned case list k (total .0)
+Inv-loop case list prices cost total₀ was₀ hours k₀ total was k = Earned case list k (total .0) (was .0)
 
 abbrev μ-loop : tie.MeasureT-loop
-μ-loop case list total₀ k₀ total k = case .hours - k
+μ-loop case list prices cost total₀ was₀ hours k₀ total was k = hours - k
+
+abbrev start : tie.In-loop Inv-loop μ-loop → tie.Start Inv-loop μ-loop
+start c = c .before .before .before .before .before .before
+
+abbrev in-hour : tie.After-output-at Inv-loop μ-loop → tie.In-loop Inv-loop μ-loop
+in-hour c = c .before .before .before
+
+-- what the price of the hour leaves above F
+over : (c : tie.After-margin Inv-loop μ-loop)
+    → let case = start (c .before .before) .args .case in
+    Worth (pos (price case (c .before .before .before .loop .k + 1)) -ℤ pos (F case)) 1000000 (c .margin .result .0)
+over c =
+    let s = start (c .before .before) in
+    let cost = c .before .before .before .before .before .mills .ensures in
+    over-of (s .args .case) (c .before .before .before .loop .k) (c .before .price-of .ensures) cost (search needs)
+    (c .margin .ensures)
+
+-- the hour is the next one
+hour : (c : tie.After-output-at Inv-loop μ-loop)
+    → let d = in-hour c in
+    Hourly (start d .args .case) (start d .args .list .now) (d .before .loop .k + 1) (c .before .margin .result .0)
+    (d .before .loop .was .0)
+    (c .output-at .result .0)
+hour c =
+    let d = in-hour c in
+    let s = start d in
+    record {
+      some = omega arith;
+      part = search needs;
+      margin = over (c .before) .is;
+      was = d .before .loop .inv .was ∙ ap (p (s .args .case) (s .args .list .now)) (omega arith);
+      is = c .output-at .ensures;
+    }
+
+mills-requires : tie.Need-mills-requires Inv-loop μ-loop
+mills-requires c κs = search needs
 
 loop-holds : tie.Need-loop-holds Inv-loop μ-loop
-loop-holds c = earned-start
+loop-holds c = let a = c .before .before .before .before .args in earned-start (sym (p-zero (a .case) (a .list .now)))
+
+mul-price-of : tie.Need-mul-price-of Inv-loop μ-loop
+mul-price-of c = search needs
+
+array-read-price-of : tie.Need-array-read-price-of Inv-loop μ-loop
+array-read-price-of c = search needs
+
+price-of-requires : tie.Need-price-of-requires Inv-loop μ-loop
+price-of-requires c κs = search needs
+
+margin-requires : tie.Need-margin-requires Inv-loop μ-loop
+margin-requires c κs =
+    let cost = c .before .before .before .before .mills .ensures in
+    omega (arith, ap natAbs (c .price-of .ensures .0), c .price-of .ensures .1, ap natAbs cost)
 
 add-k : tie.Need-add-k Inv-loop μ-loop
 add-k c = search needs
 
-profit-at-requires : tie.Need-profit-at-requires Inv-loop μ-loop
-profit-at-requires c κs = search needs
+cast-t16 : tie.Need-cast-t16 Inv-loop μ-loop
+cast-t16 c = search needs
+
+output-at-requires : tie.Need-output-at-requires Inv-loop μ-loop
+output-at-requires c κs = search needs
+
+hour-profit-requires : tie.Need-hour-profit-requires Inv-loop μ-loop
+hour-profit-requires c κs = (start (in-hour c) .pre, over (c .before) .most)
 
 sum-requires : tie.Need-sum-requires Inv-loop μ-loop
-sum-requires c κs = omega (arith, c .before .before .before .loop .inv, c .profit-at .ensures .most)
+sum-requires c κs =
+    let d = c .before in
+    let worth = c .hour-profit .ensures (start (in-hour d) .args .list .now) (in-hour d .before .loop .k + 1) (hour d) in
+    omega (arith, in-hour d .before .loop .inv, start (in-hour d) .pre .hours, worth .most)
 
 loop-less : tie.Need-loop-less Inv-loop μ-loop
 loop-less c = search needs
 
 loop-again : tie.Need-loop-again Inv-loop μ-loop
 loop-again c =
-    let d = c .before in
-    let h = d .before .before .before .loop .inv in
-    earned-step (d .profit-at .result .0) (c .sum .result .0) h (search needs) (d .profit-at .ensures) (c .sum .ensures)
+    let d = c .before .before in
+    let worth = c .before .hour-profit .ensures (start (in-hour d) .args .list .now) (in-hour d .before .loop .k + 1) (hour d) in
+    earned-step (c .before .hour-profit .result .0) (c .sum .result .0) (d .output-at .result .0) (in-hour d .before .loop .inv)
+    (search needs)
+    worth
+    (c .sum .ensures)
+    (d .output-at .ensures)
 
 returns : tie.Need-returns Inv-loop μ-loop
 returns c =
-    let h = c .before .before .loop .inv in
+    let h = c .before .loop .inv in
     record { is = earned-end h (search needs); most = omega (arith, h .most, h .part) }
 
 pub profit-of-spec : {M : Type 1} → statement M
@@ -44,9 +113,16 @@ profit-of-spec =
     (tie.spec
     Inv-loop
     μ-loop
+    mills-requires
     loop-holds
+    mul-price-of
+    array-read-price-of
+    price-of-requires
+    margin-requires
     add-k
-    profit-at-requires
+    cast-t16
+    output-at-requires
+    hour-profit-requires
     sum-requires
     loop-less
     loop-again

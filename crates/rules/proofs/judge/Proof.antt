@@ -9,10 +9,12 @@ use Rattle.rules.proofs.judge.Statement.{statement}
 use Rattle.rules.proofs.judge.Tie as tie
 
 first-breach-requires : tie.Need-first-breach-requires
-first-breach-requires c κs = let start = c .before in sized-of (start .args .case) (start .pre)
+first-breach-requires c κs =
+    let start = c .before in
+    (sized-of (start .args .case) (start .pre .0), start .pre .1)
 
 profit-of-requires : tie.Need-profit-of-requires
-profit-of-requires c κs = let start = c .before .before .before .before in priced-of (start .args .case) (start .pre)
+profit-of-requires c κs = let start = c .before .before .before .before in priced-of (start .args .case) (start .pre .0)
 
 returns : tie.Need-returns
 returns c =

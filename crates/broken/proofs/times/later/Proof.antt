@@ -6,8 +6,8 @@ use Rattle.model.proofs.CheckLaws.{since-marked, since-unmarked}
 use Rattle.broken.proofs.times.later.Statement.{statement}
 use Rattle.broken.proofs.times.later.Tie as tie
 
-add-result : tie.Need-add-result
-add-result c = search needs
+add-t5 : tie.Need-add-t5
+add-t5 c = search needs
 
 returns : tie.Need-returns
 returns c =
@@ -16,9 +16,10 @@ returns c =
 returns-2 : tie.Need-returns-2
 returns-2 c =
     record {
-      next = λ held f k l m e. ap (λ n. n + 1) e ∙ sym (since-unmarked held f k l (λ one. c .if1 .left (m ∙ one)));
+      next = λ held f k l m e.
+          ap (λ n. n + 1) e ∙ sym (since-unmarked held f k l (λ one. c .before .if1 .left (m ∙ one)));
       most = search needs;
     }
 
 pub later-spec : {M : Type 1} → statement M
-later-spec = tie.close (tie.spec add-result returns returns-2)
+later-spec = tie.close (tie.spec add-t5 returns returns-2)

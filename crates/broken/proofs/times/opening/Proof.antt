@@ -6,9 +6,6 @@ use Rattle.model.proofs.CheckLaws.{since-first}
 use Rattle.broken.proofs.times.opening.Statement.{statement}
 use Rattle.broken.proofs.times.opening.Tie as tie
 
-cast-held : tie.Need-cast-held
-cast-held c = search needs
-
 returns : tie.Need-returns
 returns c =
     let a = c .before .args .case in
@@ -20,4 +17,4 @@ returns c =
     }
 
 pub opening-spec : {M : Type 1} → statement M
-opening-spec = tie.close (tie.spec cast-held returns)
+opening-spec = tie.close (tie.spec returns)

@@ -20,8 +20,8 @@ returns c =
       next = λ case l k more n e. record {
         start = start .next (h case) (y case l) k more (n .start) (e .start);
         stop = stop .next (h case) (z case l) k more (n .stop) (e .stop);
-        startmost = omega (arith, start .most);
-        stopmost = omega (arith, stop .most);
+        startmost = omega (arith, start .most, e .startmost);
+        stopmost = omega (arith, stop .most, e .stopmost);
       };
     }
 

@@ -1,42 +1,61 @@
 -- `rules::breach::later_breach` meets its contract: hours that break no rule are passed one by one. Assumes nothing.
 use borrow.Author.Needs.{needs}
-use mathlib.Core.Path.{_∙_, sym}
+use mathlib.Core.Path.{_≡_, _∙_, sym, ap}
 use native.Mathlib.Omega.{arith}
 use Prim.Native.Nat.{_+_, _-_}
+use Rattle.model.specs.Symbols.{order}
+use Rattle.model.specs.Rules.{brokenAt}
+use Rattle.model.proofs.CheckLaws.{hourly-at}
 use Rattle.rules.proofs.BreachLaws.{Kept, kept-start, kept-step, kept-broken, kept-end}
 use Rattle.rules.proofs.breach.later_breach.Statement.{statement}
 use Rattle.rules.proofs.breach.later_breach.Tie as tie
 
 abbrev Inv-loop : tie.InvT-loop
-Inv-loop case list since₀ k₀ since k = Kept case list k since
+Inv-loop case list starts stops orders hours since₀ k₀ since k = Kept case list k since
 
 abbrev μ-loop : tie.MeasureT-loop
-μ-loop case list since₀ k₀ since k = case .hours + 1 - k
+μ-loop case list starts stops orders hours since₀ k₀ since k = hours + 1 - k
+
+abbrev start : tie.In-loop Inv-loop μ-loop → tie.Start Inv-loop μ-loop
+start c = c .before .before .before .before .before
+
+-- the rule of the hour
+broken : (c : tie.After-broken-at Inv-loop μ-loop)
+    → let a = start (c .before .before) .args in
+    c .broken-at .result ≡ brokenAt (a .case) (a .list .now) (c .before .before .before .loop .k)
+broken c =
+    let loop = c .before .before .before .loop in
+    let a = start (c .before .before) .args in
+    c .broken-at .ensures (a .list .now) (loop .k) (loop .inv .some) (c .before .numbers-at .ensures) (loop .inv .elapsed)
+    (sym (hourly-at (a .case .orders) (loop .k) (loop .inv .some)))
 
 opening-requires : tie.Need-opening-requires Inv-loop μ-loop
-opening-requires c κs = search needs
+opening-requires c κs = c .before .before .pre .0
 
 loop-holds : tie.Need-loop-holds Inv-loop μ-loop
-loop-holds c = kept-start (c .opening .ensures (c .before .before .args .list .now))
+loop-holds c = kept-start (c .opening .ensures (c .before .before .before .args .list .now))
+
+cast-t13 : tie.Need-cast-t13 Inv-loop μ-loop
+cast-t13 c = search needs
 
 numbers-at-requires : tie.Need-numbers-at-requires Inv-loop μ-loop
-numbers-at-requires c κs = search needs
+numbers-at-requires c κs =
+    let s = start c in
+    (s .pre .0, (search needs, s .pre .1))
+
+sub-broken-at : tie.Need-sub-broken-at Inv-loop μ-loop
+sub-broken-at c = search needs
+
+array-read-broken-at : tie.Need-array-read-broken-at Inv-loop μ-loop
+array-read-broken-at c = search needs
 
 broken-at-requires : tie.Need-broken-at-requires Inv-loop μ-loop
-broken-at-requires c κs =
-    let loop = c .before .before .before in
-    (loop .before .before .before .pre, (c .numbers-at .ensures .small, omega (arith, loop .loop .inv .some)))
-
-cast-t8 : tie.Need-cast-t8 Inv-loop μ-loop
-cast-t8 c = search needs
+broken-at-requires c κs = (start (c .before) .pre .0, c .numbers-at .ensures .small)
 
 returns : tie.Need-returns Inv-loop μ-loop
 returns c =
     let d = c .before in
-    let loop = d .before .before .before .before .loop in
-    let l = d .before .before .before .before .before .before .before .args .list .now in
-    let broken = d .broken-at .ensures l (d .before .numbers-at .ensures) (loop .inv .elapsed) in
-    kept-broken (loop .inv) (d .broken-at .result) (search needs) broken (c .if2 .taken)
+    kept-broken (d .before .before .before .loop .inv) (d .broken-at .result) (search needs) (broken d) (c .if1 .taken)
 
 passed-requires : tie.Need-passed-requires Inv-loop μ-loop
 passed-requires c κs = search needs
@@ -50,15 +69,14 @@ loop-less c = search needs
 loop-again : tie.Need-loop-again Inv-loop μ-loop
 loop-again c =
     let d = c .before .before in
-    let loop = d .before .before .before .before .loop in
-    let a = d .before .before .before .before .before .before .before .args in
-    let numbers = d .before .numbers-at .ensures in
-    let broken = d .broken-at .ensures (a .list .now) numbers (loop .inv .elapsed) in
-    kept-step (loop .inv) (c .passed .result) (search needs) (sym broken ∙ c .before .if2 .left)
-    (c .passed .ensures .next (a .case) (a .list .now) (loop .k) (loop .inv .some) numbers (loop .inv .elapsed))
+    let at = d .before .before .before in
+    let a = start (d .before .before) .args in
+    kept-step (at .loop .inv) (c .passed .result) (search needs) (sym (broken d) ∙ c .before .if1 .left)
+    (c .passed .ensures .next (a .case) (a .list .now) (at .loop .k) (at .loop .inv .some) (d .before .numbers-at .ensures)
+    (at .loop .inv .elapsed))
 
 returns-2 : tie.Need-returns-2 Inv-loop μ-loop
-returns-2 c = kept-end (c .before .before .loop .inv) (search needs)
+returns-2 c = kept-end (c .before .loop .inv) (search needs)
 
 pub later-breach-spec : {M : Type 1} → statement M
 later-breach-spec =
@@ -68,9 +86,11 @@ later-breach-spec =
     μ-loop
     opening-requires
     loop-holds
+    cast-t13
     numbers-at-requires
+    sub-broken-at
+    array-read-broken-at
     broken-at-requires
-    cast-t8
     returns
     passed-requires
     add-k

@@ -1,0 +1,23 @@
+-- Running counts of marked hours. Definitions only. Assumes nothing.
+use mathlib.Core.Path.{_≡_}
+use mathlib.Core.List.{List}
+use Prim.Native.Nat.{ℕ, zero, suc, _+_, _≤_}
+use lib.ListN.{getD}
+use Rattle.model.specs.declared.Case.{Case}
+use Rattle.model.specs.Marks.{y, z}
+
+-- marks of the hours before hour k, hour 0 included
+unfoldable pub counted : (ℕ → ℕ) → ℕ → ℕ
+counted f zero = 0
+counted f (suc k) = counted f k + f k
+
+-- f marks no hour twice and not hour 0, and xs has its counts up to place n
+pub record Running (f : ℕ → ℕ) (n : ℕ) (xs : List ℕ) : Type 0 where
+  pub none : f 0 ≡ 0
+  pub once : (k : ℕ) → f k ≤ 1
+  pub at : (k : ℕ) → k ≤ n → getD xs k 0 ≡ counted f k
+
+-- the counts of the starts and of the stops of a list
+pub record Counted (c : Case) (l : List ℕ) (ups downs : List ℕ) : Type 0 where
+  pub starts : Running (y c l) 63 ups
+  pub stops : Running (z c l) 63 downs

@@ -1,0 +1,72 @@
+// Running counts of starts and of stops (specs/Counted): at place k the marks of the hours before hour k. The marks of
+// the hours from one to before another are the difference of two places.
+use crate::marks::marks_of;
+use model::Case;
+use model::Hour;
+use model::Output;
+ghost use mathlib.Core.Path.{_≡_};
+ghost use Prim.Native.Nat.{ℕ, _-_, _≤_, _<_};
+ghost use lib.ListN.{length, getD};
+ghost use Rattle.hours.specs.Within.{Within};
+ghost use Rattle.hours.specs.Sized.{Sized};
+ghost use Rattle.hours.specs.Counted.{counted, Running, Counted};
+ghost use Rattle.hours.specs.Marked.{Next};
+
+// Places of the counts: 48 hours, and the longest start-up and shut-down after them.
+pub const COUNTS: usize = 64;
+
+// a less b, or 0
+pub fn less(a: Hour, b: Hour) -> Hour
+    ensures { λ r. ⌜ r .0 ≡ a .0 - b .0 ⌝ }
+{
+    if b.0 <= a.0 { Hour(a.0 - b.0) } else { Hour(0) }
+}
+
+// The output at place i of a list; past its end, that of the hour before.
+fn next_output(list: &[u16], i: usize, was: Output) -> Output
+    ensures { λ r. ⌜ Next (now (list .entry)) i (was .0) (r .0) ⌝ }
+{
+    if i < list.len() {
+        return Output(list[i]);
+    }
+    was
+}
+
+// Counts the starts and the stops of a list of T outputs.
+pub fn count_marks(case: Case, list: &[u16], starts: &mut [u8; COUNTS], stops: &mut [u8; COUNTS])
+    requires { ⌜ Sized case ⌝ }
+    requires { ⌜ length (now list) ≡ case .hours ⌝ }
+    requires { ⌜ (length (now starts) ≡ 64) × (length (now stops) ≡ 64) ⌝ }
+    ensures { λ _. ⌜ Counted case (now (list .entry)) (now (starts .exit)) (now (stops .exit)) ⌝ }
+{
+    starts[0] = 0;
+    stops[0] = 0;
+    starts[1] = 0;
+    stops[1] = 0;
+    let mut was = case.initial;
+    let mut up = 0;
+    let mut down = 0;
+    let mut k = 1;
+    while k < 63 {
+        let is = next_output(list, k - 1, was);
+        let marks = marks_of(was, is);
+        up += marks.start;
+        down += marks.stop;
+        was = is;
+        k += 1;
+        starts[k] = up;
+        stops[k] = down;
+    }
+}
+
+// The marks of the hours from one to before another.
+pub fn between(counts: &[u8; COUNTS], from: Hour, to: Hour) -> u8
+    requires { ⌜ (from .0 ≤ to .0) × (to .0 < 64) ⌝ }
+    requires { ⌜ ((f : ℕ → ℕ) × Running f 63 (now counts)) ⌝ }
+    ensures { λ r. ⌜ ((f : ℕ → ℕ) → Running f 63 (now (counts .entry))
+        → Within (counted f (to .0) - counted f (from .0)) (to .0 - from .0) r) ⌝ }
+{
+    let low = from.0 as usize;
+    let high = to.0 as usize;
+    counts[high] - counts[low]
+}
