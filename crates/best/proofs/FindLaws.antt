@@ -1,12 +1,12 @@
 -- What the search leaves is what the papers ask for: the best list and its profit, or no schedule. Assumes nothing.
 use mathlib.Core.Path.{_≡_, refl, sym, ap, _∙_, subst}
-use mathlib.Core.Bool.{Bool, true, false, true≢false}
+use mathlib.Core.Bool.{true, false, true≢false}
 use mathlib.Core.List.{List, _++_}
 use mathlib.Core.Option.{Option, none, some}
-use Prim.Native.Nat.{ℕ, _≤_, _<_, _^_}
+use Prim.Native.Nat.{ℕ, _^_}
 use native.Mathlib.Omega.{arith}
 use lib.IntN.{ℤ}
-use lib.ListN.{length, getD, drop}
+use lib.ListN.{length, drop}
 use lib.Signed.{leZ}
 use Rattle.model.specs.declared.Case.{Case}
 use Rattle.model.specs.declared.Plan.the-variants.{Found as Planned, Refused}
@@ -14,13 +14,13 @@ use Rattle.model.specs.Limits.{workLength}
 use Rattle.model.specs.Profit.{profitOf}
 use Rattle.model.specs.Best.{bestDay}
 use Rattle.model.specs.Refusals.{refusalOf}
-use Rattle.model.specs.Answers.{Scheduling, cleared, planned}
-use Rattle.machine.specs.Coded.{missing, coded}
-use Rattle.machine.specs.Search.{maybe, planAt}
-use Rattle.machine.specs.Moves.{machine, worth}
-use Rattle.machine.specs.Fit.{Fit}
-use Rattle.machine.specs.Cases.{unitOf, openingOf}
-use Rattle.machine.proofs.CodedLaws.{low, Bounded, gone, amount}
+use Rattle.model.specs.Answers.{cleared, planned}
+use Rattle.machine.specs.Coded.{missing, coded, Bounded, amount}
+use Rattle.machine.specs.Search.{maybe}
+use Rattle.machine.specs.Moves.{worth}
+use Rattle.machine.specs.Fit.{Fit, Fair}
+use Rattle.machine.specs.Cases.{unitOf, termsOf, openingOf}
+use Rattle.machine.proofs.CodedLaws.{low}
 use Rattle.machine.proofs.Sizes.{worth-size}
 use Rattle.machine.proofs.Bests.{worth-profit, worth-none, planAt-best, length-planAt}
 use Rattle.cells.specs.Table.{Found}
@@ -29,14 +29,15 @@ use Rattle.cells.specs.Table.{Found}
 amount-above : (v : ℤ) → Bounded (2 ^ 42) (some v) → leZ v missing ≡ false
 amount-above v (amount b) = low (2 ^ 42) (omega arith) v b
 
-module _ (c : Case) (e : refusalOf c ≡ 0) (fit : Fit (unitOf c)) (work : List ℤ) (ys zs : List ℕ) (z : ℤ)
-    (found : Found (unitOf c) (openingOf c) ys zs z) where
+module _ (c : Case) (e : refusalOf c ≡ 0) (fit : Fit (unitOf c))
+    (fair : (k : ℕ) → Fair (termsOf c k)) (work : List ℤ) (ys zs : List ℕ) (z : ℤ)
+    (found : Found (unitOf c) (termsOf c) (openingOf c) ys zs z) where
   -- the number tells whether there is a list
   present : (l : List ℕ) → bestDay c ≡ some l → leZ z missing ≡ false
   present l b =
       let w = worth-profit c e l b in
       rw (found .profit ∙ ap coded w)
-      (amount-above (profitOf c l) (subst (Bounded (2 ^ 42)) w (worth-size (unitOf c) fit 0 (openingOf c))))
+      (amount-above (profitOf c l) (subst (Bounded (2 ^ 42)) w (worth-size (unitOf c) fit (termsOf c) fair 0 (openingOf c))))
 
   absent : bestDay c ≡ none → leZ z missing ≡ true
   absent b = rw (found .profit ∙ ap coded (worth-none c e b)) refl

@@ -5,9 +5,11 @@
 mod unit;
 mod wipe;
 
+use machine::Charges;
 use machine::State;
 use machine::Unit;
 use model::Case;
+use model::HOURS;
 use model::HalfMills;
 use model::Outcome;
 use model::Plan;
@@ -20,9 +22,10 @@ ghost use Rattle.model.specs.Limits.{workLength};
 ghost use Rattle.model.specs.Best.{bestDay};
 ghost use Rattle.model.specs.Refusals.{refusalOf, refusal10};
 ghost use Rattle.model.specs.Answers.{outcomeNumber, planned, scheduleOf};
+ghost use Rattle.machine.specs.Moves.{dayOf};
 ghost use Rattle.machine.specs.Fit.{Fit};
 ghost use Rattle.machine.specs.Proper.{Proper};
-ghost use Rattle.cells.specs.Table.{Found};
+ghost use Rattle.cells.specs.Table.{Day, Found};
 
 // The number of a refused reading.
 fn number_of(outcome: Outcome) -> u8
@@ -35,14 +38,23 @@ fn number_of(outcome: Outcome) -> u8
 }
 
 // The search in the first working numbers; those past them stay as they are.
-fn search_first(u: Unit, s: State, work: &mut [i64], outputs: &mut [u16]) -> HalfMills
+fn search_first(
+    u: Unit,
+    charges: Charges,
+    margins: &[i64],
+    orders: &[u8],
+    s: State,
+    work: &mut [i64],
+    outputs: &mut [u16],
+) -> HalfMills
     requires { ⌜ Fit u ⌝ }
-    requires { ⌜ Proper u s ⌝ }
-    requires { ⌜ (u .hours ≤ length (now outputs)) × (workLength ≤ length (now work)) ⌝ }
-    ensures { λ r. ⌜ Found u s (now (outputs .entry)) (now (outputs .exit)) (r .0) ⌝ }
+    requires { ⌜ Day u (now margins) (now orders) charges ⌝ }
+    requires { ⌜ (Proper u s) × (u .hours .0 ≤ length (now outputs)) × (workLength ≤ length (now work)) ⌝ }
+    ensures { λ r. ⌜ Found u (dayOf (now (margins .entry)) (now (orders .entry)) charges) s (now (outputs .entry))
+        (now (outputs .exit)) (r .0) ⌝ }
     ensures { λ _. ⌜ drop workLength (now (work .exit)) ≡ drop workLength (now (work .entry)) ⌝ }
 {
-    search::search(u, s, &mut work[0..WORK], outputs)
+    search::search(u, charges, margins, orders, s, &mut work[0..WORK], outputs)
 }
 
 // The best list of a case within the limits, in memory that is long enough: the working numbers are zeroed, and the
@@ -57,8 +69,14 @@ fn find(case: Case, work: &mut [i64], outputs: &mut [u16]) -> Plan
         ≡ (planned case (now (work .entry)) (now (outputs .entry)) (bestDay case)) .outputs ⌝ }
 {
     let unit = unit::unit_of(case);
+    let charges = unit::charges_of(case);
     let opening = unit::opening_of(case);
-    let worth = search_first(unit, opening, work, outputs);
+    let prices = case.prices;
+    let bytes = case.orders;
+    let mut margins = [0i64; HOURS];
+    unit::margins(prices, case.variable, case.hours, &mut margins);
+    let orders = unit::orders(bytes, case.hours);
+    let worth = search_first(unit, charges, &margins, &orders, opening, work, outputs);
     wipe::clear(work, WORK);
     if money::absent(worth) {
         return Plan::Refused(11);

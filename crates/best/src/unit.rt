@@ -1,36 +1,39 @@
-// The unit of a case as the search sees it, and the state in which its day opens (machine's specs/Cases).
+// The unit of a case as the search sees it, the margins, orders and charges of its hours, and the state in which its day
+// opens (machine's specs/Cases).
 ghost use mathlib.Core.Path.{_≡_};
-ghost use Prim.Native.Nat.{ℕ, _+_, _-_, _≤_, _<_, min};
-ghost use lib.ListN.{getD};
+ghost use Prim.Native.Nat.{ℕ, _≤_, _<_};
+ghost use lib.ListN.{getD, replicate};
 ghost use lib.IntN.{pos, _-ℤ_};
 ghost use Rattle.model.specs.Limits.{mostStages, mostHours};
 ghost use Rattle.model.specs.Layout.{padded, noOutput};
 ghost use Rattle.model.specs.Refusals.{refusalOf};
-ghost use Rattle.machine.specs.Cases.{unitOf, openingOf};
+ghost use Rattle.machine.specs.Cases.{unitOf, chargesOf, openingOf};
+use machine::Charges;
 use machine::State;
 use machine::Unit;
 use model::Case;
 use model::HOURS;
 use model::HalfMills;
+use model::Hour;
 use model::Output;
 use model::STAGES;
 
-// The first n outputs of a trajectory as counts of megawatts, and 0 past them.
-fn stages(outputs: [Output; STAGES], n: usize) -> [usize; STAGES]
+// The first n outputs of a trajectory, and 0 past them.
+fn stages(outputs: [Output; STAGES], n: usize) -> [Output; STAGES]
     requires { ⌜ n ≤ mostStages ⌝ }
-    ensures { λ r. ⌜ r ≡ padded 0 (λ i. getD outputs i noOutput .0) n mostStages ⌝ }
+    ensures { λ r. ⌜ r ≡ padded noOutput (λ i. getD outputs i noOutput) n mostStages ⌝ }
 {
-    let mut counts = [0usize; STAGES];
+    let mut first = [Output(0); STAGES];
     let mut i = 0;
     while i < n {
         let output = outputs[i];
-        counts[i] = output.0 as usize;
+        first[i] = output;
         i += 1;
     }
-    counts
+    first
 }
 
-// A price or a cost per megawatt-hour in mills, which is as much per half-megawatt-hour in half-mills.
+// An amount in mills per megawatt-hour is as much per half-megawatt-hour in half-mills; so are doubled mills.
 fn halved(mills: u32) -> HalfMills
     ensures { λ r. ⌜ r .0 ≡ pos mills ⌝ }
 {
@@ -44,24 +47,22 @@ fn margin(price: u16, variable: u32) -> HalfMills
     money::difference(halved(price as u32), halved(variable))
 }
 
-// The margins of the first n hours, and 0 past them.
-fn margins(prices: [u16; HOURS], variable: u32, n: usize) -> [HalfMills; HOURS]
-    requires { ⌜ n ≤ mostHours ⌝ }
-    ensures { λ r. ⌜ r ≡ padded (record { 0 = pos 0 })
-        (λ k. record { 0 = pos (getD prices k 0) -ℤ pos variable }) n mostHours ⌝ }
+// The margins of the first n hours in place of zeros.
+pub(crate) fn margins(prices: [u16; HOURS], variable: u32, n: usize, to: &mut [i64; HOURS])
+    requires { ⌜ (n ≤ mostHours) × (now to ≡ replicate mostHours (pos 0)) ⌝ }
+    ensures { λ _. ⌜ now (to .exit)
+        ≡ padded (pos 0) (λ k. pos (getD prices k 0) -ℤ pos variable) n mostHours ⌝ }
     ensures { λ _. ⌜ ((k : ℕ) → getD prices k 0 < 65536) ⌝ }
 {
-    let mut amounts = [HalfMills(0); HOURS];
     let mut k = 0;
     while k < n {
-        amounts[k] = margin(prices[k], variable);
+        money::store(to, k, margin(prices[k], variable));
         k += 1;
     }
-    amounts
 }
 
 // The orders of the first n hours, and 0 past them.
-fn orders(bytes: [u8; HOURS], n: usize) -> [u8; HOURS]
+pub(crate) fn orders(bytes: [u8; HOURS], n: usize) -> [u8; HOURS]
     requires { ⌜ n ≤ mostHours ⌝ }
     ensures { λ r. ⌜ r ≡ padded 0 (λ k. getD bytes k 0) n mostHours ⌝ }
 {
@@ -74,18 +75,19 @@ fn orders(bytes: [u8; HOURS], n: usize) -> [u8; HOURS]
     first
 }
 
-// a less b, or 0.
-fn less(a: usize, b: usize) -> usize
-    ensures { λ r. ⌜ r ≡ a - b ⌝ }
+// What an on-line hour, a start and a stop of a case within the limits cost.
+pub(crate) fn charges_of(case: Case) -> Charges
+    requires { ⌜ refusalOf case ≡ 0 ⌝ }
+    ensures { λ r. ⌜ r ≡ chargesOf case ⌝ }
 {
-    if b <= a { a - b } else { 0 }
-}
-
-// The lesser of two counts.
-fn least(a: usize, b: usize) -> usize
-    ensures { λ r. ⌜ r ≡ min a b ⌝ }
-{
-    if a <= b { a } else { b }
+    let holds = halved(2 * case.fixed);
+    let starts = halved(2 * case.startcost);
+    let stops = halved(2 * case.stopcost);
+    Charges {
+        holds,
+        starts,
+        stops,
+    }
 }
 
 // The state in which the day of a case within the limits opens.
@@ -93,47 +95,41 @@ pub(crate) fn opening_of(case: Case) -> State
     requires { ⌜ refusalOf case ≡ 0 ⌝ }
     ensures { λ r. ⌜ r ≡ openingOf case ⌝ }
 {
-    let output = case.initial.0 as usize;
-    let elapsed = case.elapsed.0 as usize;
-    if output == 0 {
-        return State::Off(least(elapsed, case.mindown.0 as usize));
+    let output = case.initial;
+    if output.0 == 0 {
+        return State::Off(case.elapsed.least(case.mindown));
     }
-    State::Run(
-        output,
-        less(case.minup.0 as usize + 1, elapsed + case.falls),
-    )
+    let done = Hour(case.elapsed.0 + case.falls as u16);
+    State::Run(output, Hour(case.minup.0 + 1).less(done))
 }
 
-// The unit of a case within the limits; its prices are 16-bit numbers.
+// The unit of a case within the limits.
 pub(crate) fn unit_of(case: Case) -> Unit
     requires { ⌜ refusalOf case ≡ 0 ⌝ }
     ensures { λ r. ⌜ r ≡ unitOf case ⌝ }
-    ensures { λ _. ⌜ ((k : ℕ) → getD (case .prices) k 0 < 65536) ⌝ }
 {
     let rise = case.rise;
     let fall = case.fall;
-    let prices = case.prices;
-    let bytes = case.orders;
     let pu = stages(rise, case.rises);
     let pd = stages(fall, case.falls);
-    let amounts = margins(prices, case.variable, case.hours);
-    let first = orders(bytes, case.hours);
+    let minimum = case.minimum;
+    let capacity = case.capacity;
+    let rampup = case.rampup;
+    let rampdown = case.rampdown;
+    let mindown = case.mindown;
+    let lock = Hour(case.minup.0 + 1).less(Hour((case.rises + case.falls) as u16));
+    let hours = Hour(case.hours as u16);
     Unit {
-        minimum: case.minimum.0 as usize,
-        capacity: case.capacity.0 as usize,
-        rampup: case.rampup.0 as usize,
-        rampdown: case.rampdown.0 as usize,
-        mindown: case.mindown.0 as usize,
-        lock: less(case.minup.0 as usize + 1, case.rises + case.falls),
+        minimum,
+        capacity,
+        rampup,
+        rampdown,
+        mindown,
+        lock,
+        hours,
         rises: case.rises,
         falls: case.falls,
-        hours: case.hours,
-        holds: 2 * case.fixed as usize,
-        starts: 2 * case.startcost as usize,
-        stops: 2 * case.stopcost as usize,
         pu,
         pd,
-        margins: amounts,
-        orders: first,
     }
 }

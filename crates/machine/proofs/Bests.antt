@@ -24,7 +24,7 @@ use Rattle.model.proofs.BestLaws.{bestDay-some, bestDay-none}
 use Rattle.machine.specs.Search.{maybe, outcome, value, plan, search, planAt}
 use Rattle.machine.specs.Order.{_⊑_, AtLeast, earnsMore, sameAndLower, Answers}
 use Rattle.machine.specs.Moves.{obeys, move, machine, worth}
-use Rattle.machine.specs.Cases.{unitOf, openingOf}
+use Rattle.machine.specs.Cases.{unitOf, termsOf, openingOf}
 use Rattle.machine.proofs.Searched.{some-none, plan-earns, searched}
 use Rattle.machine.proofs.Sizes.{only-some, move-within}
 use Rattle.machine.proofs.Values.{worth-zero, plan-zero}
@@ -44,12 +44,12 @@ module _ (c : Case) (accepted : refusalOf c ≡ 0) where
   lim : Limits c
   lim = limits-of-refusalOf c accepted
 
-  answers : Answers (keeps c) (profitOf c) (search (machine (unitOf c)) (openingOf c))
+  answers : Answers (keeps c) (profitOf c) (search (machine (unitOf c) (termsOf c)) (openingOf c))
   unfolding unitOf
   answers =
-      searched (machine (unitOf c))
+      searched (machine (unitOf c) (termsOf c))
       (λ k s p t e. move-within (unitOf c) (lim .minimum-le) (rise-le c lim) (fall-le c lim) s p t
-      (only-some (obeys (unitOf c) k p) (move (unitOf c) s p) t e .1))
+      (only-some (obeys (termsOf c k) p) (move (unitOf c) s p) t e .1))
       (keeps c) (profitOf c) (openingOf c) (outcome-earned c lim)
 
   tops-of-least : (l m : List ℕ) → length l ≡ length m → AtLeast (profitOf c l) l (profitOf c m) m
@@ -66,17 +66,17 @@ module _ (c : Case) (accepted : refusalOf c ≡ 0) where
 
 -- what the search finds is the best list; where it finds none, no list keeps every rule
 pub search-is-best : (c : Case) → refusalOf c ≡ 0
-    → ((l : List ℕ) → search (machine (unitOf c)) (openingOf c) ≡ some l → Best (keeps c) (profitOf c) l)
-    × (search (machine (unitOf c)) (openingOf c) ≡ none → (l : List ℕ) → T (keeps c l) → ⊥)
+    → ((l : List ℕ) → search (machine (unitOf c) (termsOf c)) (openingOf c) ≡ some l → Best (keeps c) (profitOf c) l)
+    × (search (machine (unitOf c) (termsOf c)) (openingOf c) ≡ none → (l : List ℕ) → T (keeps c l) → ⊥)
 search-is-best c e = (
   λ l found. best-of-first c e l (subst (Answers (keeps c) (profitOf c)) found (answers c e)),
   λ missing. subst (Answers (keeps c) (profitOf c)) missing (answers c e),
 )
 
-pub search-bestDay : (c : Case) → refusalOf c ≡ 0 → search (machine (unitOf c)) (openingOf c) ≡ bestDay c
-search-bestDay c e = go (search (machine (unitOf c)) (openingOf c)) refl
+pub search-bestDay : (c : Case) → refusalOf c ≡ 0 → search (machine (unitOf c) (termsOf c)) (openingOf c) ≡ bestDay c
+search-bestDay c e = go (search (machine (unitOf c) (termsOf c)) (openingOf c)) refl
   where
-    go : (x : Option (List ℕ)) → search (machine (unitOf c)) (openingOf c) ≡ x → x ≡ bestDay c
+    go : (x : Option (List ℕ)) → search (machine (unitOf c) (termsOf c)) (openingOf c) ≡ x → x ≡ bestDay c
     go none d = sym (bestDay-none c e (search-is-best c e .1 d))
     go (some l) d = sym (bestDay-some c e (search-is-best c e .0 l d))
 
@@ -92,12 +92,12 @@ missed (some v) m e = absurd (some-none e)
 
 module _ (c : Case) (accepted : refusalOf c ≡ 0) where
   module _ (l : List ℕ) (best : bestDay c ≡ some l) where
-    pub plan-best : plan (machine (unitOf c)) 0 (c .hours) (openingOf c) ≡ l
+    pub plan-best : plan (machine (unitOf c) (termsOf c)) 0 (c .hours) (openingOf c) ≡ l
     unfolding unitOf
     plan-best =
         found
-        (value (machine (unitOf c)) 0 (c .hours) (openingOf c))
-        (plan (machine (unitOf c)) 0 (c .hours) (openingOf c))
+        (value (machine (unitOf c) (termsOf c)) 0 (c .hours) (openingOf c))
+        (plan (machine (unitOf c) (termsOf c)) 0 (c .hours) (openingOf c))
         l
         (search-bestDay c accepted ∙ best)
 
@@ -105,30 +105,30 @@ module _ (c : Case) (accepted : refusalOf c ≡ 0) where
     kept = search-is-best c accepted .0 l (search-bestDay c accepted ∙ best) .kept
 
     -- what the opening is worth is what the best list earns
-    pub value-profit : value (machine (unitOf c)) 0 (c .hours) (openingOf c) ≡ some (profitOf c l)
+    pub value-profit : value (machine (unitOf c) (termsOf c)) 0 (c .hours) (openingOf c) ≡ some (profitOf c l)
     value-profit =
-        sym (plan-earns (machine (unitOf c)) 0 (c .hours) (openingOf c))
-        ∙ ap (outcome (machine (unitOf c)) 0 (c .hours) (openingOf c)) plan-best
+        sym (plan-earns (machine (unitOf c) (termsOf c)) 0 (c .hours) (openingOf c))
+        ∙ ap (outcome (machine (unitOf c) (termsOf c)) 0 (c .hours) (openingOf c)) plan-best
         ∙ outcome-earned c (limits-of-refusalOf c accepted) l
         ∙ ap (λ t. cond t (some (profitOf c l)) none) (T→true (keeps c l) kept)
 
-    pub worth-profit : worth (unitOf c) 0 (openingOf c) ≡ some (profitOf c l)
+    pub worth-profit : worth (unitOf c) (termsOf c) 0 (openingOf c) ≡ some (profitOf c l)
     unfolding unitOf
-    worth-profit = worth-zero (machine (unitOf c)) (openingOf c) ∙ value-profit
+    worth-profit = worth-zero (machine (unitOf c) (termsOf c)) (openingOf c) ∙ value-profit
 
-    pub planAt-best : planAt (machine (unitOf c)) 0 (openingOf c) ≡ l
+    pub planAt-best : planAt (machine (unitOf c) (termsOf c)) 0 (openingOf c) ≡ l
     unfolding unitOf
-    planAt-best = plan-zero (machine (unitOf c)) (openingOf c) ∙ plan-best
+    planAt-best = plan-zero (machine (unitOf c) (termsOf c)) (openingOf c) ∙ plan-best
 
-    pub length-planAt : length (planAt (machine (unitOf c)) 0 (openingOf c)) ≡ c .hours
+    pub length-planAt : length (planAt (machine (unitOf c) (termsOf c)) 0 (openingOf c)) ≡ c .hours
     length-planAt = ap length planAt-best ∙ kept-length c l kept
 
   -- no worth, where there is no list
-  pub worth-none : bestDay c ≡ none → worth (unitOf c) 0 (openingOf c) ≡ none
+  pub worth-none : bestDay c ≡ none → worth (unitOf c) (termsOf c) 0 (openingOf c) ≡ none
   unfolding unitOf
   worth-none e =
-      worth-zero (machine (unitOf c)) (openingOf c)
+      worth-zero (machine (unitOf c) (termsOf c)) (openingOf c)
       ∙ missed
-      (value (machine (unitOf c)) 0 (c .hours) (openingOf c))
-      (plan (machine (unitOf c)) 0 (c .hours) (openingOf c))
+      (value (machine (unitOf c) (termsOf c)) 0 (c .hours) (openingOf c))
+      (plan (machine (unitOf c) (termsOf c)) 0 (c .hours) (openingOf c))
       (search-bestDay c accepted ∙ e)

@@ -9,7 +9,7 @@ use lib.Dec.{eqb, eqb·suc-zero}
 use lib.IntN.{pos, _-ℤ_}
 use lib.ListN.{getD, List·getD-eq-default}
 use Rattle.model.specs.declared.Case.{Case}
-use Rattle.model.specs.declared.HalfMills.{HalfMills}
+use Rattle.model.specs.declared.Output.{Output}
 use Rattle.model.specs.Limits.{mostStages, mostHours}
 use Rattle.model.specs.Symbols.{UD, DD, PU, PD, F, last, price, order}
 use Rattle.model.specs.Layout.{padded, noOutput}
@@ -17,8 +17,8 @@ use Rattle.model.proofs.LimitsLaws.{Limits}
 use Rattle.model.specs.Words.{Ordered}
 use Rattle.model.proofs.LayoutLaws.{length-padded, getD-padded-in, getD-padded-past}
 use Rattle.model.proofs.SymbolsLaws.{stage-suc, hourly-suc}
-use Rattle.machine.specs.Moves.{obeys}
-use Rattle.machine.specs.Cases.{unitOf}
+use Rattle.machine.specs.Moves.{puAt, pdAt, obeys}
+use Rattle.machine.specs.Cases.{unitOf, marginsOf, ordersOf, termsOf}
 
 -- past the count every entry is the filling, past the array too
 padded-rest : {X : Type 0} (d : X) (f : ℕ → X) (n size i : ℕ) → n ≤ i → getD (padded d f n size) i d ≡ d
@@ -39,56 +39,57 @@ of-allows o (suc q) e =
     (λ d. omega arith, λ d. absurd (eqb-false o 2 (not-true (eqb o 2) (rw (eqb·suc-zero q) at e)) d))
 
 module _ (c : Case) where
-  pub pu-past : (i : ℕ) → UD c ≤ i → getD (unitOf c .pu) i 0 ≡ 0
+  pub pu-past : (i : ℕ) → UD c ≤ i → puAt (unitOf c) i ≡ 0
   unfolding unitOf
-  pu-past i h = padded-rest 0 (λ i. getD (c .rise) i noOutput .0) (UD c) mostStages i h
+  pu-past i h =
+      ap (λ (o : Output). o .0) (padded-rest noOutput (λ i. getD (c .rise) i noOutput) (UD c) mostStages i h)
 
-  pub pd-past : (i : ℕ) → DD c ≤ i → getD (unitOf c .pd) i 0 ≡ 0
+  pub pd-past : (i : ℕ) → DD c ≤ i → pdAt (unitOf c) i ≡ 0
   unfolding unitOf
-  pd-past i h = padded-rest 0 (λ i. getD (c .fall) i noOutput .0) (DD c) mostStages i h
+  pd-past i h =
+      ap (λ (o : Output). o .0) (padded-rest noOutput (λ i. getD (c .fall) i noOutput) (DD c) mostStages i h)
 
   -- the margin of an hour in mills per MWh: its price less F
-  pub margin-past : (k : ℕ) → last c ≤ k → getD (unitOf c .margins) k (record { 0 = pos 0 }) .0 ≡ pos 0
-  unfolding unitOf
-  margin-past k h =
-      let entry : ℕ → HalfMills = λ k. record { 0 = pos (getD (c .prices) k 0) -ℤ pos (F c) } in
-      ap (λ (m : HalfMills). m .0) (padded-rest (record { 0 = pos 0 }) entry (last c) mostHours k h)
+  pub margin-past : (k : ℕ) → last c ≤ k → getD (marginsOf c) k (pos 0) ≡ pos 0
+  unfolding marginsOf
+  margin-past k h = padded-rest (pos 0) (λ k. pos (getD (c .prices) k 0) -ℤ pos (F c)) (last c) mostHours k h
 
   module _ (lim : Limits c) where
-    pub margin-at : (k : ℕ) → k < last c
-        → getD (unitOf c .margins) k (record { 0 = pos 0 }) .0 ≡ pos (price c (suc k)) -ℤ pos (F c)
-    unfolding unitOf
-    margin-at k h =
-        let entry : ℕ → HalfMills = λ k. record { 0 = pos (getD (c .prices) k 0) -ℤ pos (F c) } in
-        let room : k < mostHours = omega (arith, lim .hours-le) in
-        let zero : HalfMills = record { 0 = pos 0 } in
-        ap (λ (m : HalfMills). m .0) (getD-padded-in zero entry (last c) mostHours zero k h room)
-        ∙ ap (λ n. pos n -ℤ pos (F c)) (sym (hourly-suc (c .prices) k))
-
-    pub pu-at : (i : ℕ) → i < UD c → getD (unitOf c .pu) i 0 ≡ PU c (suc i)
+    pub pu-at : (i : ℕ) → i < UD c → puAt (unitOf c) i ≡ PU c (suc i)
     unfolding unitOf
     pu-at i h =
-        getD-padded-in 0 (λ i. getD (c .rise) i noOutput .0) (UD c) mostStages 0 i h (omega (arith, lim .rises-le))
+        let room : i < mostStages = omega (arith, lim .rises-le) in
+        ap (λ (o : Output). o .0)
+        (getD-padded-in noOutput (λ i. getD (c .rise) i noOutput) (UD c) mostStages noOutput i h room)
         ∙ sym (stage-suc (c .rise) i)
 
-    pub pd-at : (i : ℕ) → i < DD c → getD (unitOf c .pd) i 0 ≡ PD c (suc i)
+    pub pd-at : (i : ℕ) → i < DD c → pdAt (unitOf c) i ≡ PD c (suc i)
     unfolding unitOf
     pd-at i h =
-        getD-padded-in 0 (λ i. getD (c .fall) i noOutput .0) (DD c) mostStages 0 i h (omega (arith, lim .falls-le))
+        let room : i < mostStages = omega (arith, lim .falls-le) in
+        ap (λ (o : Output). o .0)
+        (getD-padded-in noOutput (λ i. getD (c .fall) i noOutput) (DD c) mostStages noOutput i h room)
         ∙ sym (stage-suc (c .fall) i)
 
-    order-at : (k : ℕ) → k < last c → getD (unitOf c .orders) k 0 ≡ order c (suc k)
-    unfolding unitOf
+    pub margin-at : (k : ℕ) → k < last c → getD (marginsOf c) k (pos 0) ≡ pos (price c (suc k)) -ℤ pos (F c)
+    unfolding marginsOf
+    margin-at k h =
+        let room : k < mostHours = omega (arith, lim .hours-le) in
+        getD-padded-in (pos 0) (λ k. pos (getD (c .prices) k 0) -ℤ pos (F c)) (last c) mostHours (pos 0) k h room
+        ∙ ap (λ n. pos n -ℤ pos (F c)) (sym (hourly-suc (c .prices) k))
+
+    order-at : (k : ℕ) → k < last c → getD (ordersOf c) k 0 ≡ order c (suc k)
+    unfolding ordersOf
     order-at k h =
         getD-padded-in 0 (λ k. getD (c .orders) k 0) (last c) mostHours 0 k h (omega (arith, lim .hours-le))
         ∙ sym (hourly-suc (c .orders) k)
 
     -- the order of an hour, from 0, allows an output
-    pub obeys-of-ordered : (k q : ℕ) → k < last c → Ordered c (suc k) q → obeys (unitOf c) k q ≡ true
+    pub obeys-of-ordered : (k q : ℕ) → k < last c → Ordered c (suc k) q → obeys (termsOf c k) q ≡ true
     unfolding obeys
     obeys-of-ordered k q h o = rw (order-at k h) (allows-of (order c (suc k)) q (o .on-line) (o .off-line))
 
-    pub ordered-of-obeys : (k q : ℕ) → k < last c → obeys (unitOf c) k q ≡ true → Ordered c (suc k) q
+    pub ordered-of-obeys : (k q : ℕ) → k < last c → obeys (termsOf c k) q ≡ true → Ordered c (suc k) q
     unfolding obeys
     ordered-of-obeys k q h e =
         let (a, b) = of-allows (order c (suc k)) q (rw (order-at k h) at e) in

@@ -14,91 +14,101 @@ use Rattle.model.specs.Symbols.{high, low, UD, DD, F, last, price, p0, h}
 use Rattle.model.specs.Refusals.{refusalOf}
 use Rattle.model.proofs.LimitsLaws.{Limits, limits-of-refusalOf}
 use Rattle.model.proofs.SymbolsLaws.{hourly-suc}
-use Rattle.machine.specs.declared.State.the-variants.{Off, Run}
-use Rattle.machine.specs.Cases.{unitOf, openingOf}
-use Rattle.machine.specs.Fit.{Fit}
+use Rattle.machine.specs.Moves.{idle, running, puAt, pdAt}
+use Rattle.machine.specs.Cases.{unitOf, marginsOf, chargesOf, termsOf, openingOf}
+use Rattle.machine.specs.Fit.{Fit, Fair}
 use Rattle.machine.specs.Proper.{Proper}
 use Rattle.model.proofs.Automaton.Stages.{pu-le, pd-le, pd-lt}
 use Rattle.machine.proofs.CasesLaws.{pu-past, pd-past, pu-at, pd-at, margin-past, margin-at}
 
 module _ (c : Case) (lim : Limits c) where
   -- the trajectories at every place
-  pub rise-le : (i : ℕ) → getD (unitOf c .pu) i 0 ≤ high c
+  pub rise-le : (i : ℕ) → puAt (unitOf c) i ≤ high c
   rise-le i = go (decLt i (UD c))
     where
-      go : Dec (i < UD c) → getD (unitOf c .pu) i 0 ≤ high c
+      go : Dec (i < UD c) → puAt (unitOf c) i ≤ high c
       go (yes l) = omega (arith, pu-at c lim i l, pu-le c lim (suc i) (omega arith) l, lim .minimum-le)
       go (no l) = omega (arith, pu-past c i (omega arith))
 
-  pub fall-le : (i : ℕ) → getD (unitOf c .pd) i 0 ≤ low c
+  pub fall-le : (i : ℕ) → pdAt (unitOf c) i ≤ low c
   fall-le i = go (decLt i (DD c))
     where
-      go : Dec (i < DD c) → getD (unitOf c .pd) i 0 ≤ low c
+      go : Dec (i < DD c) → pdAt (unitOf c) i ≤ low c
       go (yes l) = omega (arith, pd-at c lim i l, pd-le c lim (suc i) (omega arith) l)
       go (no l) = omega (arith, pd-past c i (omega arith))
 
-  fall-lt : getD (unitOf c .pd) 1 0 < low c
+  fall-lt : pdAt (unitOf c) 1 < low c
   fall-lt = go (decLt 1 (DD c))
     where
-      go : Dec (1 < DD c) → getD (unitOf c .pd) 1 0 < low c
+      go : Dec (1 < DD c) → pdAt (unitOf c) 1 < low c
       go (yes l) = omega (arith, pd-at c lim 1 l, pd-lt c lim 1 (omega arith) l)
       go (no l) = omega (arith, pd-past c 1 (omega arith), lim .minimum-pos)
 
-  rise-pos : 1 ≤ getD (unitOf c .pu) 0 0
+  rise-pos : 1 ≤ puAt (unitOf c) 0
   rise-pos = omega (arith, pu-at c lim 0 (lim .rises-pos), lim .rise-pos)
 
   -- margins, where prices are of 16 bits
   module _ (prices : (k : ℕ) → getD (c .prices) k 0 < 65536) where
-    margin-le : (k : ℕ) → natAbs (getD (unitOf c .margins) k (record { 0 = pos 0 }) .0) ≤ 2 ^ 24
+    margin-le : (k : ℕ) → natAbs (getD (marginsOf c) k (pos 0)) ≤ 2 ^ 24
     margin-le k = go (decLt k (last c))
       where
-        go : Dec (k < last c) → natAbs (getD (unitOf c .margins) k (record { 0 = pos 0 }) .0) ≤ 2 ^ 24
+        go : Dec (k < last c) → natAbs (getD (marginsOf c) k (pos 0)) ≤ 2 ^ 24
         go (yes l) =
             let size = abs-- (pos (price c (suc k))) (pos (F c)) in
             rw (margin-at c lim k l) (omega (arith, size, hourly-suc (c .prices) k, prices k, lim .variable-le))
         go (no l) = rw (margin-past c k (omega arith)) (omega arith)
 
-    fit : Fit (unitOf c)
-    unfolding unitOf
-    fit =
+    fair : (k : ℕ) → Fair (termsOf c k)
+    unfolding chargesOf
+    fair k =
         record {
-          minimum-pos = lim .minimum-pos;
-          minimum-le = lim .minimum-le;
-          capacity-le = lim .capacity-le;
-          rampup-le = lim .rampup-le;
-          rampdown-le = lim .rampdown-le;
-          mindown-pos = lim .mindown-pos;
-          mindown-le = lim .mindown-le;
-          lock-le = omega (arith, lim .minup-le, lim .rises-pos);
-          rises-pos = lim .rises-pos;
-          rises-le = lim .rises-le;
-          falls-pos = lim .falls-pos;
-          falls-le = lim .falls-le;
-          hours-pos = lim .hours-pos;
-          hours-le = lim .hours-le;
+          margin-le = margin-le k;
           holds-le = omega (arith, lim .fixed-le);
           starts-le = omega (arith, lim .startcost-le);
           stops-le = omega (arith, lim .stopcost-le);
-          pu-pos = rise-pos;
-          pu-le = rise-le;
-          pd-le = fall-le;
-          pd-lt = fall-lt;
-          margins-le = margin-le;
         }
+
+  fit : Fit (unitOf c)
+  unfolding unitOf
+  fit =
+      record {
+        minimum-pos = lim .minimum-pos;
+        minimum-le = lim .minimum-le;
+        capacity-le = lim .capacity-le;
+        rampup-le = lim .rampup-le;
+        rampdown-le = lim .rampdown-le;
+        mindown-pos = lim .mindown-pos;
+        mindown-le = lim .mindown-le;
+        lock-le = omega (arith, lim .minup-le, lim .rises-pos);
+        hours-pos = lim .hours-pos;
+        hours-le = lim .hours-le;
+        rises-pos = lim .rises-pos;
+        rises-le = lim .rises-le;
+        falls-pos = lim .falls-pos;
+        falls-le = lim .falls-le;
+        pu-pos = rise-pos;
+        pu-le = rise-le;
+        pd-le = fall-le;
+        pd-lt = fall-lt;
+      }
 
   proper : Proper (unitOf c) (openingOf c)
   unfolding unitOf openingOf
   proper = go (eqb (p0 c) 0) refl
     where
       go : (t : Bool) → eqb (p0 c) 0 ≡ t
-          → Proper (unitOf c) (cond t (Off (min (h c) (c .mindown .0))) (Run (p0 c) (c .minup .0 + 1 - (h c + DD c))))
+          → Proper (unitOf c) (cond t (idle (min (h c) (c .mindown .0))) (running (p0 c) (c .minup .0 + 1 - (h c + DD c))))
       go true e = (omega (arith, lim .elapsed-pos, lim .mindown-pos), omega arith)
       go false e =
           let on : 1 ≤ p0 c = omega (arith, eqb-false (p0 c) 0 e) in
           (lim .initial-low on, lim .initial-le, omega (arith, lim .minup-le))
 
-pub fit-of-limits : (c : Case) → refusalOf c ≡ 0 → ((k : ℕ) → getD (c .prices) k 0 < 65536) → Fit (unitOf c)
-fit-of-limits c e prices = fit c (limits-of-refusalOf c e) prices
+pub fit-of-limits : (c : Case) → refusalOf c ≡ 0 → Fit (unitOf c)
+fit-of-limits c e = fit c (limits-of-refusalOf c e)
+
+pub fair-of-limits : (c : Case) → refusalOf c ≡ 0 → ((k : ℕ) → getD (c .prices) k 0 < 65536) → (k : ℕ)
+    → Fair (termsOf c k)
+fair-of-limits c e prices = fair c (limits-of-refusalOf c e) prices
 
 pub opening-proper : (c : Case) → refusalOf c ≡ 0 → Proper (unitOf c) (openingOf c)
 opening-proper c e = proper c (limits-of-refusalOf c e)

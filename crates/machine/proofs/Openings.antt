@@ -14,11 +14,10 @@ use Rattle.model.specs.Symbols.{high, low, DD, last, p0, h}
 use Rattle.model.specs.Rules.{keeps}
 use Rattle.model.specs.Profit.{profitOf}
 use Rattle.model.proofs.LimitsLaws.{Limits}
-use Rattle.machine.specs.declared.State.the-variants.{Off, Run}
 use Rattle.machine.specs.Search.{outcome}
 use Rattle.machine.specs.Order.{earned}
-use Rattle.machine.specs.Moves.{output, machine}
-use Rattle.machine.specs.Cases.{unitOf, openingOf}
+use Rattle.machine.specs.Moves.{idle, running, output, machine}
+use Rattle.machine.specs.Cases.{unitOf, termsOf, openingOf}
 use Rattle.model.specs.Automaton.{first}
 use Rattle.machine.specs.Image.{image, Good, profitFrom}
 use Rattle.model.proofs.Automaton.Keeping.{keeps-runs}
@@ -31,7 +30,7 @@ module _ (c : Case) where
   image-first = go (p0 c)
     where
       go : (n : ℕ) → image c (first c n)
-          ≡ cond (eqb n 0) (Off (min (h c) (c .mindown .0))) (Run n (c .minup .0 + 1 - (h c + DD c)))
+          ≡ cond (eqb n 0) (idle (min (h c) (c .mindown .0))) (running n (c .minup .0 + 1 - (h c + DD c)))
       go zero = refl
       go (suc n) = rw (eqb·suc-zero n)
 
@@ -48,13 +47,13 @@ module _ (c : Case) where
 
   module _ (lim : Limits c) (l : List ℕ) where
     abbrev Outcome : Option ℤ
-    Outcome = outcome (machine (unitOf c)) 0 (last c) (image c (first c (p0 c))) l
+    Outcome = outcome (machine (unitOf c) (termsOf c)) 0 (last c) (image c (first c (p0 c))) l
 
     outcome-of-keeps : T (keeps c l) → Outcome ≡ some (profitOf c l)
     outcome-of-keeps t =
         let (n, r) = keeps-runs c l lim .0 t in
         let gain = runs-profit c lim l 0 (first c (p0 c)) (omega arith) (good-first lim) r in
-        subst (λ k. outcome (machine (unitOf c)) 0 k (image c (first c (p0 c))) l ≡ some (profitOf c l)) n
+        subst (λ k. outcome (machine (unitOf c) (termsOf c)) 0 k (image c (first c (p0 c))) l ≡ some (profitOf c l)) n
         (gain
         ∙ ap (λ q. some (profitFrom c 0 q l)) (output-first (p0 c))
         ∙ ap some (profitFrom-profitOf c lim l n))
@@ -64,13 +63,13 @@ module _ (c : Case) where
         let (r, n) = runs-of-earned c lim l (last c) 0 (first c (p0 c)) v (omega arith) (good-first lim) e in
         keeps-runs c l lim .1 (n, r)
 
-    pub outcome-earned : outcome (machine (unitOf c)) 0 (last c) (openingOf c) l ≡ earned (keeps c) (profitOf c) l
+    pub outcome-earned : outcome (machine (unitOf c) (termsOf c)) 0 (last c) (openingOf c) l ≡ earned (keeps c) (profitOf c) l
     outcome-earned =
-        subst (λ s. outcome (machine (unitOf c)) 0 (last c) s l ≡ earned (keeps c) (profitOf c) l) image-first
+        subst (λ s. outcome (machine (unitOf c) (termsOf c)) 0 (last c) s l ≡ earned (keeps c) (profitOf c) l) image-first
         (go (keeps c l) refl Outcome refl)
       where
         go : (t : Bool) → keeps c l ≡ t → (x : Option ℤ)
-            → outcome (machine (unitOf c)) 0 (last c) (image c (first c (p0 c))) l ≡ x
+            → outcome (machine (unitOf c) (termsOf c)) 0 (last c) (image c (first c (p0 c))) l ≡ x
             → x ≡ cond t (some (profitOf c l)) none
         go true e x d = sym d ∙ outcome-of-keeps (true→T (keeps c l) e)
         go false e none d = refl

@@ -18,33 +18,33 @@ use Rattle.model.proofs.MarksLaws.{p-zero, p-suc}
 use Rattle.model.proofs.ProfitLaws.{energy-is, charge-is, profitAt-is, profitTo-none, profitTo-more, profitOf-is}
 use Rattle.model.proofs.Automaton.Hours.{on, rise}
 use Rattle.machine.specs.Moves.{charge, earn}
-use Rattle.machine.specs.Cases.{unitOf}
+use Rattle.machine.specs.Cases.{chargesOf, termsOf}
 use Rattle.machine.specs.Image.{profitFrom}
 use Rattle.machine.proofs.CasesLaws.{margin-at}
 use Rattle.model.proofs.Automaton.Literals.{v-is, y-is, z-is}
 
 -- charges by the marks of two outputs, and by the outputs
-charges : (a b d q p : ℕ) → a * (2 * on p) + (b * (2 * rise q p) + d * (2 * rise p q))
-    ≡ cond (eqb p 0) (cond (eqb q 0) 0 (2 * d)) (cond (eqb q 0) (2 * a + 2 * b) (2 * a))
-charges a b d zero zero = omega arith
-charges a b d (suc q) zero = rw (eqb·suc-zero q) (omega arith)
-charges a b d zero (suc p) = rw (eqb·suc-zero p) (omega arith)
-charges a b d (suc q) (suc p) = rw (eqb·suc-zero p, eqb·suc-zero q) (omega arith)
+charges : (a b d q p : ℕ) → pos (a * (2 * on p) + (b * (2 * rise q p) + d * (2 * rise p q)))
+    ≡ cond (eqb p 0) (cond (eqb q 0) (pos 0) (pos (2 * d))) (cond (eqb q 0) (pos (2 * a) +ℤ pos (2 * b)) (pos (2 * a)))
+charges a b d zero zero = ap pos (omega arith)
+charges a b d (suc q) zero = rw (eqb·suc-zero q) (ap pos (omega arith))
+charges a b d zero (suc p) = rw (eqb·suc-zero p) (ap pos (omega arith))
+charges a b d (suc q) (suc p) = rw (eqb·suc-zero p, eqb·suc-zero q) (ap pos (omega arith))
 
 module _ (c : Case) (lim : Limits c) (l : List ℕ) where
   charge-same : (k : ℕ) → k < last c
-      → Rattle.model.specs.Profit.charge c l (suc k) ≡ charge (unitOf c) (p c l k) (p c l (suc k))
-  unfolding unitOf charge
+      → pos (Rattle.model.specs.Profit.charge c l (suc k)) ≡ charge (termsOf c k) (p c l k) (p c l (suc k))
+  unfolding chargesOf charge
   charge-same k h =
       let q = p c l k in
       let r = p c l (suc k) in
-      charge-is c l (suc k)
+      ap pos (charge-is c l (suc k)
       ∙ ap (λ n. A c * (2 * n) + (B c * (2 * y c l (suc k)) + C c * (2 * z c l (suc k)))) (v-is c l (suc k))
       ∙ ap (λ n. A c * (2 * on r) + (B c * (2 * n) + C c * (2 * z c l (suc k)))) (y-is c l k h)
-      ∙ ap (λ n. A c * (2 * on r) + (B c * (2 * rise q r) + C c * (2 * n))) (z-is c l k h)
+      ∙ ap (λ n. A c * (2 * on r) + (B c * (2 * rise q r) + C c * (2 * n))) (z-is c l k h))
       ∙ charges (A c) (B c) (C c) q r
 
-  earn-same : (k : ℕ) → k < last c → profitAt c l (suc k) ≡ earn (unitOf c) k (p c l k) (p c l (suc k))
+  earn-same : (k : ℕ) → k < last c → profitAt c l (suc k) ≡ earn (termsOf c k) (p c l k) (p c l (suc k))
   unfolding earn
   earn-same k h =
       let margin = margin-at c lim k h in
@@ -58,12 +58,12 @@ module _ (c : Case) (lim : Limits c) (l : List ℕ) where
   profit-from [] k n e = +ℤ-idr (profitTo c l k) ∙ ap (profitTo c l) (omega arith)
   profit-from (q ∷ m) k n e =
       let here : p c l (suc k) ≡ q = ap (p c l) (omega arith) ∙ e 0 in
-      let hour : earn (unitOf c) k (p c l k) q ≡ profitAt c l (suc k) =
-      ap (earn (unitOf c) k (p c l k)) (sym here) ∙ sym (earn-same k (omega arith)) in
+      let hour : earn (termsOf c k) (p c l k) q ≡ profitAt c l (suc k) =
+      ap (earn (termsOf c k) (p c l k)) (sym here) ∙ sym (earn-same k (omega arith)) in
       let more : profitTo c l (suc k) ≡ profitTo c l k +ℤ profitAt c l (suc k) =
       rw (add-one k) at (profitTo-more c l k) in
       let rest = profit-from m (suc k) (omega arith) (λ i. ap (p c l) (omega arith) ∙ e (suc i)) in
-      sym (+ℤ-assoc (profitTo c l k) (earn (unitOf c) k (p c l k) q) (profitFrom c (suc k) q m))
+      sym (+ℤ-assoc (profitTo c l k) (earn (termsOf c k) (p c l k) q) (profitFrom c (suc k) q m))
       ∙ ap (λ x. profitTo c l k +ℤ x +ℤ profitFrom c (suc k) q m) hour
       ∙ ap (λ x. x +ℤ profitFrom c (suc k) q m) (sym more)
       ∙ ap (λ x. profitTo c l (suc k) +ℤ profitFrom c (suc k) x m) (sym here)

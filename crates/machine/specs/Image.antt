@@ -6,17 +6,17 @@ use lib.IntN.{ℤ, pos, _+ℤ_}
 use Rattle.model.specs.declared.Case.{Case}
 use Rattle.model.specs.Symbols.{high, low, UD, DD}
 use Rattle.machine.specs.declared.State.{State}
-use Rattle.machine.specs.declared.State.the-variants.{Off, Rise, Run, Fall}
+use Rattle.machine.specs.declared.State.the-variants.{Rise, Fall}
 use Rattle.model.specs.Automaton.{St, off, up, run, down}
-use Rattle.machine.specs.Cases.{unitOf}
-use Rattle.machine.specs.Moves.{earn}
+use Rattle.machine.specs.Cases.{termsOf}
+use Rattle.machine.specs.Moves.{idle, running, earn}
 
 -- the machine's state of a state of the automaton
 abbrev pub image : Case → St → State
-image c (off d) = Off (min d (c .mindown .0))
+image c (off d) = idle (min d (c .mindown .0))
 image c (up zero) = Rise 0
 image c (up (suc i)) = Rise i
-image c (run r w) = Run r (c .minup .0 + 1 - (w + DD c))
+image c (run r w) = running r (c .minup .0 + 1 - (w + DD c))
 image c (down zero) = Fall 0
 image c (down (suc i)) = Fall i
 
@@ -30,4 +30,4 @@ Good c (down i) = (1 ≤ i) × (i ≤ DD c)
 -- what a list earns from hour k on, hours from 0, after output q
 abbrev pub profitFrom : Case → ℕ → ℕ → List ℕ → ℤ
 profitFrom c k q [] = pos 0
-profitFrom c k q (p ∷ l) = earn (unitOf c) k q p +ℤ profitFrom c (suc k) p l
+profitFrom c k q (p ∷ l) = earn (termsOf c k) q p +ℤ profitFrom c (suc k) p l
