@@ -4,7 +4,7 @@ use mathlib.Core.List.{List}
 use Prim.Native.Nat.{ℕ, zero, suc, _+_, _-_, _≤_, _<_}
 use native.Mathlib.Numerals.{add-one}
 use native.Mathlib.Omega.{arith}
-use lib.ListN.{length, getD, set, length-set}
+use lib.ListN.{length, getD, set, replicate, length-set}
 use lib.Seq.{getD-set-same, getD-set-other}
 use native.Mathlib.Decide.{ℕ-discrete}
 use Rattle.model.specs.Symbols.{sum}
@@ -24,7 +24,9 @@ module _ (f : ℕ → ℕ) where
 
   -- the marks of n hours from hour k on
   pub counted-on : (k n : ℕ) → counted f (k + n) ≡ counted f k + sum (λ i. f (k + i - 1)) n
-  counted-on k zero = omega (arith, sum-zero (λ i. f (k + i - 1)), ap (counted f) (let e : k + 0 ≡ k = omega arith in e))
+  counted-on k zero =
+      let same : counted f (k + 0) ≡ counted f k = ap (counted f) (omega arith) in
+      omega (arith, sum-zero (λ i. f (k + i - 1)))
   counted-on k (suc n) =
       let here : f (k + suc n - 1) ≡ f (k + n) = ap f (omega arith) in
       let far : counted f (k + suc n) ≡ counted f (k + n + 1) = ap (counted f) (omega arith) in
@@ -32,7 +34,9 @@ module _ (f : ℕ → ℕ) where
 
   -- the marks of n hours before hour k, where hour 0 has none
   pub counted-back : f 0 ≡ 0 → (k n : ℕ) → counted f k ≡ counted f (k - n) + sum (λ i. f (k - i)) n
-  counted-back o k zero = omega (arith, sum-zero (λ i. f (k - i)), ap (counted f) (let e : k - 0 ≡ k = omega arith in e))
+  counted-back o k zero =
+      let same : counted f (k - 0) ≡ counted f k = ap (counted f) (omega arith) in
+      omega (arith, sum-zero (λ i. f (k - i)))
   counted-back o k (suc n) = go (k - n) refl (counted-back o k n)
     where
       go : (m : ℕ) → k - n ≡ m → counted f k ≡ counted f (k - n) + sum (λ i. f (k - i)) n
@@ -53,9 +57,6 @@ module _ (f : ℕ → ℕ) where
         let e : counted f (k + suc n) ≡ counted f (k + n + 1) = ap (counted f) (omega arith) in
         omega (arith, counted-apart k n, counted-more (k + n), once (k + n))
 
-    pub counted-most : (k : ℕ) → counted f k ≤ k
-    counted-most k = omega (arith, counted-apart 0 k, counted-zero, ap (counted f) (let e : 0 + k ≡ k = omega arith in e))
-
 module _ {f : ℕ → ℕ} where
   -- the marks from hour a to before hour b
   pub running-between : {n : ℕ} {xs : List ℕ} → Running f n xs → (a b : ℕ) → a ≤ b → b ≤ n
@@ -67,22 +68,33 @@ module _ {f : ℕ → ℕ} where
       let apart = counted-apart f (r .once) a (b - a) in
       (omega arith, record { is = omega arith; most = omega arith })
 
-  -- the counts as they are written, place by place
-  pub running-start : (xs : List ℕ) → 0 < length xs → f 0 ≡ 0 → ((k : ℕ) → f k ≤ 1) → Running f 0 (set xs 0 0)
-  running-start xs h o u =
-      record {
-        none = o;
-        once = u;
-        at = λ k m.
-            ap (λ i. getD (set xs 0 0) i 0) (let e : k ≡ 0 = omega arith in e) ∙ getD-set-same xs 0 0 0 h
-            ∙ sym (ap (counted f) (let e : k ≡ 0 = omega arith in e) ∙ counted-zero f);
-      }
+  -- the counts as they are written, place by place, over zeros
+  pub running-start : {xs : List ℕ} → xs ≡ replicate 64 0 → f 0 ≡ 0 → ((k : ℕ) → f k ≤ 1) → Running f 1 xs
+  running-start {xs} e o u = record { long = ap length e ∙ refl; none = o; once = u; at = at }
+    where
+      at : (k : ℕ) → k ≤ 1 → getD xs k 0 ≡ counted f k
+      at zero m = ap (λ l. getD l 0 0) e ∙ sym (counted-zero f)
+      at (suc zero) m = ap (λ l. getD l 1 0) e ∙ omega (arith, counted-zero f, counted-more f 0)
+      at (suc (suc k)) m = absurd (omega arith)
 
-  pub running-step : {n : ℕ} {xs : List ℕ} (x : ℕ) → Running f n xs → n + 1 < length xs → x ≡ counted f (n + 1)
+  pub running-step : {n : ℕ} {xs : List ℕ} (x : ℕ) → Running f n xs → n < 63 → x ≡ getD xs n 0 + f n
       → Running f (n + 1) (set xs (n + 1) x)
-  running-step {n} {xs} x r h e = record { none = r .none; once = r .once; at = λ k m. go k m (ℕ-discrete k (n + 1)) }
+  running-step {n} {xs} x r h e =
+      record {
+        long = length-set xs (n + 1) x ∙ r .long;
+        none = r .none;
+        once = r .once;
+        at = λ k m. go k m (ℕ-discrete k (n + 1));
+      }
     where
       go : (k : ℕ) → k ≤ n + 1 → Dec (k ≡ n + 1) → getD (set xs (n + 1) x) k 0 ≡ counted f k
-      go k m (yes q) = ap (λ i. getD (set xs (n + 1) x) i 0) q ∙ getD-set-same xs (n + 1) x 0 h ∙ e
-          ∙ ap (counted f) (sym q)
+      go k m (yes q) =
+          let here : x ≡ counted f (n + 1) = omega (arith, counted-more f n, r .at n (omega arith)) in
+          let room : n + 1 < length xs = omega (arith, r .long) in
+          ap (λ i. getD (set xs (n + 1) x) i 0) q ∙ getD-set-same xs (n + 1) x 0 room ∙ here ∙ ap (counted f) (sym q)
       go k m (no q) = getD-set-other xs (n + 1) k x 0 q ∙ r .at k (omega arith)
+
+  pub running-most : {n : ℕ} {xs : List ℕ} → Running f n xs → getD xs n 0 ≤ n
+  running-most {n} r =
+      let from : counted f (0 + n) ≡ counted f n = ap (counted f) (omega arith) in
+      omega (arith, r .at n (omega arith), counted-apart f (r .once) 0 n, counted-zero f)

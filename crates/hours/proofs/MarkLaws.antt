@@ -1,98 +1,72 @@
 -- The marks of an hour by the outputs at its ends. Assumes nothing.
-use mathlib.Core.Path.{_≡_, refl, sym, ap, _∙_}
-use mathlib.Core.Bool.{cond}
+use mathlib.Core.Path.{_≡_, sym, ap, _∙_}
+use mathlib.Core.Logic.{⊎-elim}
 use mathlib.Core.List.{List}
 use Prim.Native.Nat.{ℕ, zero, suc, _-_, _≤_, _<_}
+use native.Mathlib.Nat.{eq-zero-or-pos}
 use native.Mathlib.Omega.{arith}
-use borrow.Author.Tests.{lt-ltb, eq-eqb, ne-eqb}
 use Rattle.model.specs.declared.Case.{Case}
-use Rattle.model.specs.Symbols.{bit, last}
+use Rattle.model.specs.Symbols.{before, last}
 use Rattle.model.specs.Marks.{p, v, y, z}
 use Rattle.model.proofs.MarksLaws.{v-on, v-off, y-zero, z-zero, y-after-off, y-after-on, z-at-off, z-at-on}
+use Rattle.model.proofs.CheckLaws.{before-is}
 use Rattle.hours.specs.declared.marks.Marks.{Marks}
-use Rattle.hours.specs.Marked.{onlineOf, changeOf, Marked}
+use Rattle.hours.specs.Marked.{Online, Began, Marked, MarksAt}
 
--- by the tests on the outputs
-pub online-on : (r : ℕ) → 0 < r → onlineOf r ≡ 1
-unfolding onlineOf
-online-on r h = ap bit (lt-ltb 0 r h)
+-- an output that stays marks neither a start nor a stop
+pub stays : {q r : ℕ} {m : Marks} → q ≡ r → Marked q r m → (m .start ≡ 0) × (m .stop ≡ 0)
+stays {q} {r} {m} e h = ⊎-elim off on (eq-zero-or-pos q)
+  where
+    off : q ≡ 0 → (m .start ≡ 0) × (m .stop ≡ 0)
+    off d =
+        let was = h .wasonline .off d in
+        let is = h .online .off (sym e ∙ d) in
+        (h .start .off was ∙ is, h .stop .off is ∙ was)
 
-pub online-off : onlineOf 0 ≡ 0
-unfolding onlineOf
-online-off = refl
-
-pub change-off : (q r : ℕ) → q ≡ 0 → changeOf q r ≡ onlineOf r
-unfolding changeOf
-change-off q r e = ap (λ t. cond t (onlineOf r) 0) (eq-eqb q 0 e)
-
-pub change-on : (q r : ℕ) → (q ≡ 0 → ⊥) → changeOf q r ≡ 0
-unfolding changeOf
-change-on q r n = ap (λ t. cond t (onlineOf r) 0) (ne-eqb q 0 n)
-
-pub online-most : (r : ℕ) → onlineOf r ≤ 1
-online-most zero = omega (arith, online-off)
-online-most (suc r) = omega (arith, online-on (suc r) (omega arith))
-
-pub change-most : (q r : ℕ) → changeOf q r ≤ 1
-change-most zero r = omega (arith, change-off 0 r refl, online-most r)
-change-most (suc q) r = omega (arith, change-on (suc q) r (λ e. omega arith))
-
--- an output that stays marks nothing
-pub change-none : (q : ℕ) → changeOf q q ≡ 0
-change-none zero = change-off 0 0 refl ∙ online-off
-change-none (suc q) = change-on (suc q) (suc q) (λ e. omega arith)
-
--- no mark is above 1
-pub record Single (m : Marks) : Type 0 where
-  pub online : m .online ≤ 1
-  pub wasonline : m .wasonline ≤ 1
-  pub start : m .start ≤ 1
-  pub stop : m .stop ≤ 1
-
-pub marked-single : {q r : ℕ} {m : Marks} → Marked q r m → Single m
-marked-single {q} {r} {m} e =
-    record {
-      online = omega (arith, e .online, online-most r);
-      wasonline = omega (arith, e .wasonline, online-most q);
-      start = omega (arith, e .start, change-most q r);
-      stop = omega (arith, e .stop, change-most r q);
-    }
+    on : 0 < q → (m .start ≡ 0) × (m .stop ≡ 0)
+    on d =
+        let was = h .wasonline .on d in
+        let is = h .online .on (omega arith) in
+        (h .start .on (omega arith), h .stop .on (omega arith))
 
 module _ (c : Case) (l : List ℕ) where
-  pub v-of : (k : ℕ) → v c l k ≡ onlineOf (p c l k)
-  v-of k = go (p c l k) refl
-    where
-      go : (q : ℕ) → p c l k ≡ q → v c l k ≡ onlineOf q
-      go zero e = cc (v-off c l k e, online-off)
-      go (suc q) e = cc (v-on c l k (omega arith), online-on (suc q) (omega arith))
+  online-of : (k : ℕ) {q r : ℕ} → q ≡ p c l k → Online q r → r ≡ v c l k
+  online-of k {q} {r} e h =
+      ⊎-elim (λ (d : q ≡ 0). h .off d ∙ sym (v-off c l k (sym e ∙ d)))
+      (λ (d : 0 < q). h .on d ∙ sym (v-on c l k (omega arith)))
+      (eq-zero-or-pos q)
+
+  module _ (k : ℕ) (from : 0 < k) (to : k ≤ last c) {a b r : ℕ} (was : a ≡ v c l (k - 1)) (is : b ≡ v c l k) where
+    start-of : a ≤ 1 → Began a b r → r ≡ y c l k
+    start-of m h =
+        ⊎-elim (λ (d : a ≡ 0). h .off d ∙ is ∙ sym (y-after-off c l k from to (sym was ∙ d)))
+        (λ (d : 0 < a). h .on d ∙ sym (y-after-on c l k from to (omega arith)))
+        (eq-zero-or-pos a)
+
+    stop-of : b ≤ 1 → Began b a r → r ≡ z c l k
+    stop-of m h =
+        ⊎-elim (λ (d : b ≡ 0). h .off d ∙ was ∙ sym (z-at-off c l k from to (sym is ∙ d)))
+        (λ (d : 0 < b). h .on d ∙ sym (z-at-on c l k from to (omega arith)))
+        (eq-zero-or-pos b)
 
   -- from hour 0 to T
-  pub y-of : (k : ℕ) → k ≤ last c → y c l k ≡ changeOf (p c l (k - 1)) (p c l k)
-  y-of zero to =
-      y-zero c l ∙ sym (ap (λ j. changeOf (p c l j) (p c l 0)) (let e : 0 - 1 ≡ 0 = omega arith in e)
-      ∙ change-none (p c l 0))
-  y-of (suc k) to = go (p c l (suc k - 1)) refl
-    where
-      go : (q : ℕ) → p c l (suc k - 1) ≡ q → y c l (suc k) ≡ changeOf q (p c l (suc k))
-      go zero e =
-          cc (y-after-off c l (suc k) (omega arith) to (v-off c l (suc k - 1) e), v-of (suc k), change-off 0 (p c l (suc k)) refl)
-      go (suc q) e =
-          cc (
-            y-after-on c l (suc k) (omega arith) to (v-on c l (suc k - 1) (omega arith)),
-            change-on (suc q) (p c l (suc k)) (λ n. omega arith),
-          )
-
-  pub z-of : (k : ℕ) → k ≤ last c → z c l k ≡ changeOf (p c l k) (p c l (k - 1))
-  z-of zero to =
-      z-zero c l ∙ sym (ap (λ j. changeOf (p c l 0) (p c l j)) (let e : 0 - 1 ≡ 0 = omega arith in e)
-      ∙ change-none (p c l 0))
-  z-of (suc k) to = go (p c l (suc k)) refl
-    where
-      go : (q : ℕ) → p c l (suc k) ≡ q → z c l (suc k) ≡ changeOf q (p c l (suc k - 1))
-      go zero e =
-          cc (z-at-off c l (suc k) (omega arith) to (v-off c l (suc k) e), v-of (suc k - 1), change-off 0 (p c l (suc k - 1)) refl)
-      go (suc q) e =
-          cc (
-            z-at-on c l (suc k) (omega arith) to (v-on c l (suc k) (omega arith)),
-            change-on (suc q) (p c l (suc k - 1)) (λ n. omega arith),
-          )
+  pub marks-at : (k : ℕ) {q r : ℕ} {m : Marks} → k ≤ last c → q ≡ p c l (k - 1) → r ≡ p c l k → Marked q r m
+      → MarksAt c l k m
+  marks-at zero {q} {r} {m} to was is h =
+      let same : q ≡ r = was ∙ ap (p c l) (let e : 0 - 1 ≡ 0 = omega arith in e) ∙ sym is in
+      let none = stays same h in
+      record {
+        online = online-of 0 is (h .online);
+        wasonline = online-of 0 (same ∙ is) (h .wasonline);
+        start = none .0 ∙ sym (y-zero c l);
+        stop = none .1 ∙ sym (z-zero c l);
+      }
+  marks-at (suc k) to was is h =
+      let before = online-of (suc k - 1) was (h .wasonline) in
+      let here = online-of (suc k) is (h .online) in
+      record {
+        online = here;
+        wasonline = before ∙ ap (v c l) (sym (before-is (suc k)));
+        start = start-of (suc k) (omega arith) to before here (h .wasonline .most) (h .start);
+        stop = stop-of (suc k) (omega arith) to before here (h .online .most) (h .stop);
+      }

@@ -1,7 +1,7 @@
 -- The numbers of an hour as the source has them. Assumes nothing.
-use mathlib.Core.Path.{_≡_, sym, ap, _∙_}
+use mathlib.Core.Path.{_≡_, ap}
 use mathlib.Core.List.{List}
-use Prim.Native.Nat.{ℕ, _+_, _-_, _≤_}
+use Prim.Native.Nat.{ℕ, _+_, _-_}
 use native.Mathlib.Omega.{arith}
 use Rattle.model.specs.declared.Case.{Case}
 use Rattle.model.specs.Symbols.{sum, DD}
@@ -21,6 +21,7 @@ module _ (c : Case) (l : List ℕ) where
   pub stopping-are : (k : ℕ) → sum (λ i. z c l (k + DD c + 1 - i)) (DD c) ≡ stopping c l k
   stopping-are k =
       let back = counted-back (z c l) (z-zero c l) (k + DD c + 1) (DD c) in
-      let start : counted (z c l) (k + DD c + 1 - DD c) ≡ counted (z c l) (k + 1) = ap (counted (z c l)) (omega arith) in
-      let end : counted (z c l) (k + 1 + DD c) ≡ counted (z c l) (k + DD c + 1) = ap (counted (z c l)) (omega arith) in
+      let f = counted (z c l) in
+      let start : f (k + DD c + 1 - DD c) ≡ f (k + 1) = ap f (omega arith) in
+      let end : f (k + 1 + DD c) ≡ f (k + DD c + 1) = ap f (omega arith) in
       omega (arith, back, stops-are (k + 1) (DD c), stopping-is c l k)

@@ -2,7 +2,7 @@
 use mathlib.Core.Path.{_≡_}
 use mathlib.Core.List.{List}
 use Prim.Native.Nat.{ℕ, zero, suc, _+_, _≤_}
-use lib.ListN.{getD}
+use lib.ListN.{length, getD}
 use Rattle.model.specs.declared.Case.{Case}
 use Rattle.model.specs.Marks.{y, z}
 
@@ -11,8 +11,9 @@ unfoldable pub counted : (ℕ → ℕ) → ℕ → ℕ
 counted f zero = 0
 counted f (suc k) = counted f k + f k
 
--- f marks no hour twice and not hour 0, and xs has its counts up to place n
+-- f marks no hour twice and not hour 0, and 64 numbers have its counts up to place n
 pub record Running (f : ℕ → ℕ) (n : ℕ) (xs : List ℕ) : Type 0 where
+  pub long : length xs ≡ 64
   pub none : f 0 ≡ 0
   pub once : (k : ℕ) → f k ≤ 1
   pub at : (k : ℕ) → k ≤ n → getD xs k 0 ≡ counted f k

@@ -1,27 +1,38 @@
 -- The marks of an hour by the outputs at its ends. Definitions only. Assumes nothing.
 use mathlib.Core.Path.{_≡_}
-use mathlib.Core.Bool.{cond}
 use mathlib.Core.List.{List}
 use Prim.Native.Nat.{ℕ, _≤_, _<_}
-use lib.Dec.{ltb, eqb}
 use lib.ListN.{length, getD}
-use Rattle.model.specs.Symbols.{bit}
+use Rattle.model.specs.declared.Case.{Case}
+use Rattle.model.specs.Symbols.{before}
+use Rattle.model.specs.Marks.{v, y, z}
 use Rattle.hours.specs.declared.marks.Marks.{Marks}
 
--- v of an hour that ends at output p
-unfoldable pub onlineOf : ℕ → ℕ
-onlineOf p = bit (ltb 0 p)
+-- r is 1 where the unit is on-line at output p, else 0
+pub record Online (p r : ℕ) : Type 0 where
+  pub on : 0 < p → r ≡ 1
+  pub off : p ≡ 0 → r ≡ 0
+  pub most : r ≤ 1
 
--- 1 where the unit is off-line at output q and on-line at p, else 0
-unfoldable pub changeOf : ℕ → ℕ → ℕ
-changeOf q p = cond (eqb q 0) (onlineOf p) 0
+-- of the marks a and b of two outputs, r is 1 where the unit is off-line at the first and on-line at the second, else 0
+pub record Began (a b r : ℕ) : Type 0 where
+  pub off : a ≡ 0 → r ≡ b
+  pub on : 0 < a → r ≡ 0
+  pub most : r ≤ b
 
 -- the marks of an hour from output q to p
 pub record Marked (q p : ℕ) (m : Marks) : Type 0 where
-  pub online : m .online ≡ onlineOf p
-  pub wasonline : m .wasonline ≡ onlineOf q
-  pub start : m .start ≡ changeOf q p
-  pub stop : m .stop ≡ changeOf p q
+  pub online : Online p (m .online)
+  pub wasonline : Online q (m .wasonline)
+  pub start : Began (m .wasonline) (m .online) (m .start)
+  pub stop : Began (m .online) (m .wasonline) (m .stop)
+
+-- they are v(k), v(k−1), y(k) and z(k) of a list
+pub record MarksAt (c : Case) (l : List ℕ) (k : ℕ) (m : Marks) : Type 0 where
+  pub online : m .online ≡ v c l k
+  pub wasonline : m .wasonline ≡ v c l (before k)
+  pub start : m .start ≡ y c l k
+  pub stop : m .stop ≡ z c l k
 
 -- r is the output at place i of a list; past its end, that of the hour before
 pub record Next (l : List ℕ) (i was r : ℕ) : Type 0 where

@@ -4,9 +4,10 @@ use mathlib.Core.List.{List}
 use Prim.Native.Nat.{ℕ, _+_, _-_, _≤_}
 use Rattle.model.specs.declared.Case.{Case}
 use Rattle.model.specs.Symbols.{before, UD, DD}
-use Rattle.model.specs.Marks.{p, v, y, z}
+use Rattle.model.specs.Marks.{p}
 use Rattle.model.specs.Constraints.{starting, stopping, startOutput, stopOutput, stopsWithin}
 use Rattle.hours.specs.declared.Numbers.{Numbers}
+use Rattle.hours.specs.Marked.{MarksAt}
 
 -- the counts are small enough to be added and multiplied
 pub record Small (n : Numbers) : Type 0 where
@@ -24,10 +25,7 @@ pub record Numbered (c : Case) (l : List ℕ) (k : ℕ) (n : Numbers) : Type 0 w
   pub small : Small n
   pub output : n .output .0 ≡ p c l k
   pub earlier : n .earlier .0 ≡ p c l (before k)
-  pub online : n .marks .online ≡ v c l k
-  pub wasonline : n .marks .wasonline ≡ v c l (before k)
-  pub start : n .marks .start ≡ y c l k
-  pub stop : n .marks .stop ≡ z c l k
+  pub marks : MarksAt c l k (n .marks)
   pub starting : n .startup .marks ≡ starting c l k
   pub stopping : n .shutdown .marks ≡ stopping c l k
   pub startoutput : n .startup .output .0 ≡ startOutput c l k

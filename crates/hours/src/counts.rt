@@ -6,7 +6,7 @@ use model::Hour;
 use model::Output;
 ghost use mathlib.Core.Path.{_≡_};
 ghost use Prim.Native.Nat.{ℕ, _-_, _≤_, _<_};
-ghost use lib.ListN.{length, getD};
+ghost use lib.ListN.{length, replicate};
 ghost use Rattle.hours.specs.Within.{Within};
 ghost use Rattle.hours.specs.Sized.{Sized};
 ghost use Rattle.hours.specs.Counted.{counted, Running, Counted};
@@ -32,30 +32,23 @@ fn next_output(list: &[u16], i: usize, was: Output) -> Output
     was
 }
 
-// Counts the starts and the stops of a list of T outputs.
+// The counts of the starts and of the stops of a list of T outputs, in place of zeros.
 pub fn count_marks(case: Case, list: &[u16], starts: &mut [u8; COUNTS], stops: &mut [u8; COUNTS])
     requires { ⌜ Sized case ⌝ }
     requires { ⌜ length (now list) ≡ case .hours ⌝ }
-    requires { ⌜ (length (now starts) ≡ 64) × (length (now stops) ≡ 64) ⌝ }
+    requires { ⌜ (now starts ≡ replicate 64 0) × (now stops ≡ replicate 64 0) ⌝ }
     ensures { λ _. ⌜ Counted case (now (list .entry)) (now (starts .exit)) (now (stops .exit)) ⌝ }
 {
-    starts[0] = 0;
-    stops[0] = 0;
-    starts[1] = 0;
-    stops[1] = 0;
     let mut was = case.initial;
-    let mut up = 0;
-    let mut down = 0;
     let mut k = 1;
     while k < 63 {
         let is = next_output(list, k - 1, was);
         let marks = marks_of(was, is);
-        up += marks.start;
-        down += marks.stop;
+        let next = k + 1;
+        starts[next] = starts[k] + marks.start;
+        stops[next] = stops[k] + marks.stop;
         was = is;
-        k += 1;
-        starts[k] = up;
-        stops[k] = down;
+        k = next;
     }
 }
 

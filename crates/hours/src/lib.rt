@@ -1,6 +1,6 @@
 // The numbers of an hour of a list: its output, its marks, and the sums that the constraints compare (model's
-// specs/Marks and specs/Constraints), each sum of marks the difference of two running counts (specs/Counted). Only other
-// crates of this repository call what has a `requires` here, with a case within the limits.
+// specs/Marks and specs/Constraints). A sum of marks is the difference of two running counts (specs/Counted). Only
+// other crates of this repository call what has a `requires` here, with a case within the limits.
 pub mod counts;
 pub mod marks;
 pub mod stages;

@@ -4,7 +4,7 @@ use model::Hour;
 use model::Output;
 ghost use mathlib.Core.Path.{_≡_};
 ghost use Rattle.model.specs.Marks.{p};
-ghost use Rattle.hours.specs.Marked.{onlineOf, changeOf, Marked};
+ghost use Rattle.hours.specs.Marked.{Online, Began, Marked};
 
 // 1 where the unit is on-line at the end of an hour and at its beginning, where it starts and where it stops, else 0.
 pub struct Marks {
@@ -31,26 +31,28 @@ pub fn output_at(case: Case, list: &[u16], k: Hour) -> Output
 
 // 1 where the unit is on-line at p.
 fn online(p: Output) -> u8
-    ensures { λ r. ⌜ r ≡ onlineOf (p .0) ⌝ }
+    ensures { λ r. ⌜ Online (p .0) r ⌝ }
 {
     if 0 < p.0 { 1 } else { 0 }
 }
 
-// 1 where the unit is off-line at q and on-line at p.
-fn began(q: Output, p: Output) -> u8
-    ensures { λ r. ⌜ r ≡ changeOf (q .0) (p .0) ⌝ }
+// Of the marks of two outputs: 1 where the unit is off-line at the first and on-line at the second.
+fn began(first: u8, second: u8) -> u8
+    ensures { λ r. ⌜ Began first second r ⌝ }
 {
-    if q.0 == 0 { online(p) } else { 0 }
+    if first == 0 { second } else { 0 }
 }
 
 // The marks of an hour from output q to p.
 pub fn marks_of(q: Output, p: Output) -> Marks
     ensures { λ r. ⌜ Marked (q .0) (p .0) r ⌝ }
 {
+    let was = online(q);
+    let is = online(p);
     Marks {
-        online: online(p),
-        wasonline: online(q),
-        start: began(q, p),
-        stop: began(p, q),
+        online: is,
+        wasonline: was,
+        start: began(was, is),
+        stop: began(is, was),
     }
 }

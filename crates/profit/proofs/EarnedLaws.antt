@@ -7,14 +7,15 @@ use lib.IntN.{ℤ, pos, natAbs, _+ℤ_, _-ℤ_, _*ℤ_}
 use lib.ListN.{getD}
 use Rattle.laws.proofs.Magnitude.{abs-+}
 use Rattle.model.specs.declared.Case.{Case}
-use Rattle.model.specs.Symbols.{F, price, last}
-use Rattle.model.specs.Marks.{p, v, y, z}
-use Rattle.model.specs.Profit.{energy, charge, profitAt, profitTo, profitOf}
+use Rattle.model.specs.Symbols.{F, price}
+use Rattle.model.specs.Marks.{p}
+use Rattle.model.specs.Profit.{energy, profitAt, profitTo, profitOf}
 use Rattle.model.proofs.CheckLaws.{hourly-at, before-is}
-use Rattle.model.proofs.ProfitLaws.{abs-apart, energy-is, charge-is, profit-of, profitTo-none, profitTo-more, profitOf-is}
+use Rattle.model.proofs.ProfitLaws.{abs-apart, energy-is, charge-is, profit-of}
+use Rattle.model.proofs.ProfitLaws.{profitTo-none, profitTo-more, profitOf-is}
 use Rattle.hours.specs.declared.marks.Marks.{Marks}
-use Rattle.hours.specs.Marked.{Marked, onlineOf}
-use Rattle.hours.proofs.MarkLaws.{v-of, y-of, z-of}
+use Rattle.hours.specs.Marked.{Marked}
+use Rattle.hours.proofs.MarkLaws.{marks-at}
 use Rattle.profit.specs.Worth.{Worth, Hourly, chargeOf}
 
 -- what the price of hour k + 1 leaves above F
@@ -30,14 +31,11 @@ module _ {c : Case} {l : List ℕ} where
   -- what an hour earns
   pub hour-of : {k q r : ℕ} {over gain cost : ℤ} {m : Marks} → Hourly c l k over q r → Marked q r m
       → gain ≡ over *ℤ pos (r + q) → cost ≡ pos (chargeOf c m) → gain -ℤ cost ≡ profitAt c l k
-  unfolding chargeOf
   hour-of {k} {q} {r} {over} {gain} {cost} {m} h e g w =
       let energy : r + q ≡ energy c l k =
       rw (h .is, h .was) (sym (energy-is c l k ∙ ap (λ j. p c l k + p c l j) (before-is k))) in
-      let online : m .online ≡ v c l k = e .online ∙ ap onlineOf (h .is) ∙ sym (v-of c l k) in
-      let start : m .start ≡ y c l k = e .start ∙ rw (h .is, h .was) (sym (y-of c l k (h .part))) in
-      let stop : m .stop ≡ z c l k = e .stop ∙ rw (h .is, h .was) (sym (z-of c l k (h .part))) in
-      profit-of c l k (h .margin) energy g (w ∙ rw (online, start, stop, charge-is c l k) refl)
+      let at = marks-at c l k (h .part) (h .was) (h .is) e in
+      profit-of c l k (h .margin) energy g (w ∙ rw (at .online, at .start, at .stop, charge-is c l k) refl)
 
 -- the hours 1 to k are added up; the last ends at output q
 pub record Earned (c : Case) (l : List ℕ) (k : ℕ) (total : ℤ) (q : ℕ) : Type 0 where

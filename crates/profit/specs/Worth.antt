@@ -23,7 +23,7 @@ pub record Priced (c : Case) : Type 0 where
   pub stopcost : c .stopcost ≤ mostCharge
 
 -- what an hour costs beside F by its marks, in half-mills
-unfoldable pub chargeOf : Case → Marks → ℕ
+abbrev pub chargeOf : Case → Marks → ℕ
 chargeOf c m = A c * (2 * m .online) + (B c * (2 * m .start) + C c * (2 * m .stop))
 
 -- over is what the price of hour k leaves above F, and the hour is from output q to r

@@ -40,21 +40,12 @@ fn margin(price: Mills, cost: Mills) -> Mills
     Mills(price.0 - cost.0)
 }
 
-// n halves of an amount, in half-mills: of a price per megawatt-hour for n half-megawatt-hours, or of a charge that is
-// made n / 2 times.
+// n halves of an amount: half-mills for n half-megawatt-hours at a price per megawatt-hour.
 fn halves(amount: Mills, n: usize) -> HalfMills
     requires { ⌜ (natAbs (amount .0) ≤ 2 ^ 30) × (n ≤ 2 ^ 20) ⌝ }
     ensures { λ r. ⌜ r .0 ≡ amount .0 *ℤ pos n ⌝ }
 {
     HalfMills(amount.0 * (n as i64))
-}
-
-// A charge, where an hour is marked.
-fn charged(amount: Mills, mark: u8) -> HalfMills
-    requires { ⌜ (natAbs (amount .0) ≤ 100000000) × (mark ≤ 1) ⌝ }
-    ensures { λ r. ⌜ Worth (amount .0 *ℤ pos (2 * mark)) 200000000 (r .0) ⌝ }
-{
-    halves(amount, 2 * (mark as usize))
 }
 
 // What an hour costs beside F, by its marks.
@@ -63,10 +54,10 @@ fn charge_of(case: Case, m: Marks) -> HalfMills
     requires { ⌜ (m .online ≤ 1) × (m .start ≤ 1) × (m .stop ≤ 1) ⌝ }
     ensures { λ r. ⌜ Worth (pos (chargeOf case m)) 600000000 (r .0) ⌝ }
 {
-    let fixed = charged(mills(case.fixed), m.online);
-    let startcost = charged(mills(case.startcost), m.start);
-    let stopcost = charged(mills(case.stopcost), m.stop);
-    sum(fixed, sum(startcost, stopcost))
+    let fixed = (case.fixed as u64) * (2 * (m.online as u64));
+    let startcost = (case.startcost as u64) * (2 * (m.start as u64));
+    let stopcost = (case.stopcost as u64) * (2 * (m.stop as u64));
+    HalfMills((fixed + (startcost + stopcost)) as i64)
 }
 
 // The profit of an hour from output q to p, with what its price leaves above F.

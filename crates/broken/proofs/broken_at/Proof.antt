@@ -1,7 +1,6 @@
 -- `broken::broken_at` meets its contract: each group stands before those after it. Assumes nothing.
 use borrow.Author.Needs.{needs}
 use mathlib.Core.Path.{_∙_, sym, ap}
-use mathlib.Core.List.{[]}
 use Rattle.model.specs.Rules.{brokenOf}
 use Rattle.model.proofs.CheckLaws.{brokenAt-later, rulesAt-later}
 use Rattle.broken.specs.Groups.{ramp, commitment, overlap, terms}

@@ -1,5 +1,5 @@
--- `broken::broken_commitment` meets its contract: each test is its rule, and the first that fails has its number. Assumes
--- nothing.
+-- `broken::broken_commitment` meets its contract: each test is its rule, and the first that fails has its number.
+-- Assumes nothing.
 use borrow.Author.Needs.{needs}
 use Rattle.broken.proofs.FirstLaws.{rest, next, tried}
 use Rattle.broken.proofs.NumbersLaws.{rule7-of, rule8-of, rule9-of}

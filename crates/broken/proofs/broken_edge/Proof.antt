@@ -1,5 +1,5 @@
--- `broken::broken_edge` meets its contract: each test is its rule, and the first that fails has its number. Assumes
--- nothing.
+-- `broken::broken_edge` meets its contract: each test is its rule, and the first that fails has its number.
+-- Assumes nothing.
 use borrow.Author.Needs.{needs}
 use mathlib.Core.Path.{_∙_, sym}
 use Rattle.model.proofs.CheckLaws.{brokenOf-none}

@@ -1,5 +1,5 @@
--- `broken::broken_ramp` meets its contract: each test is its rule, and the first that fails has its number. Assumes
--- nothing.
+-- `broken::broken_ramp` meets its contract: each test is its rule, and the first that fails has its number.
+-- Assumes nothing.
 use borrow.Author.Needs.{needs}
 use mathlib.Core.Path.{_∙_}
 use Rattle.broken.proofs.FirstLaws.{rest, next, tried}

@@ -1,5 +1,5 @@
--- `broken::broken_terms` meets its contract: each test is its rule, and the first that fails has its number. Assumes
--- nothing.
+-- `broken::broken_terms` meets its contract: each test is its rule, and the first that fails has its number.
+-- Assumes nothing.
 use borrow.Author.Needs.{needs}
 use mathlib.Core.Path.{_∙_, sym}
 use Rattle.model.proofs.CheckLaws.{brokenOf-none}
@@ -33,7 +33,8 @@ returns c =
     λ l k h e o. tried
     (next (c .first3 .ensures) (c .before .kept-time2 .ensures ∙ rule21-of h e)
     (next (down .first2 .ensures) (down .before .kept-time .ensures ∙ rule22-of h e)
-    (next (ordered .first .ensures) (ordered .before .kept-order .ensures ∙ rule23-of h o) (rest (sym (brokenOf-none k))))))
+    (next (ordered .first .ensures) (ordered .before .kept-order .ensures ∙ rule23-of h o)
+    (rest (sym (brokenOf-none k))))))
 
 pub broken-terms-spec : {M : Type 1} → statement M
 broken-terms-spec =

@@ -3,17 +3,17 @@ use borrow.Author.Needs.{needs}
 use native.Mathlib.Omega.{arith}
 use mathlib.Core.Path.{_≡_, _∙_, sym, ap}
 use Prim.Native.Nat.{_+_, _-_}
-use Rattle.model.specs.Symbols.{before}
-use Rattle.model.specs.Marks.{p, v, y, z}
-use Rattle.model.specs.Constraints.{stopsWithin}
+use Rattle.model.specs.Marks.{p, y, z}
 use Rattle.model.proofs.ConstraintsLaws.{starting-is, startOutput-is, stopOutput-is}
 use Rattle.model.proofs.CheckLaws.{before-is}
-use Rattle.hours.specs.Marked.{onlineOf}
 use Rattle.hours.specs.Counted.{counted}
-use Rattle.hours.proofs.MarkLaws.{v-of, y-of, z-of, marked-single}
+use Rattle.hours.proofs.MarkLaws.{marks-at}
 use Rattle.hours.proofs.NumbersLaws.{stops-are, stopping-are}
 use Rattle.hours.proofs.numbers_at.Statement.{statement}
 use Rattle.hours.proofs.numbers_at.Tie as tie
+
+abbrev start : tie.After-marks-of → tie.Start
+start c = c .before .before .before .before .before .before .before .before .before
 
 cast-rises : tie.Need-cast-rises
 cast-rises c = search needs
@@ -47,31 +47,26 @@ marks-of-requires c κs = search needs
 
 sequence-at-requires : tie.Need-sequence-at-requires
 sequence-at-requires c κs =
-    let four = c .before .before .before .before in
-    let s = four .before .before .before .before .before in
+    let s = start c in
     let (sized, (hour, counted)) = s .pre in
     (sized .rise, (omega (arith, sized .hours), (y (s .args .case) (s .args .list .now), counted .starts)))
 
 sequence-at-requires-2 : tie.Need-sequence-at-requires-2
 sequence-at-requires-2 c κs =
-    let five = c .before .before .before .before .before in
-    let s = five .before .before .before .before .before in
-    let (sized, (hour, counted)) = s .pre in (
-      sized .fall,
-      (omega (arith, sized .hours, sized .fall .count), (z (s .args .case) (s .args .list .now), counted .stops)),
-    )
+    let s = start (c .before) in
+    let (sized, (hour, counted)) = s .pre in
+    let most = sized .fall .count in
+    (sized .fall, (omega (arith, sized .hours), (z (s .args .case) (s .args .list .now), counted .stops)))
 
 between-requires : tie.Need-between-requires
 between-requires c κs =
-    let six = c .before .before .before .before .before .before in
-    let s = six .before .before .before .before .before in
+    let s = start (c .before .before) in
     let (sized, (hour, counted)) = s .pre in
     (omega (arith, sized .hours, sized .fall .count), (z (s .args .case) (s .args .list .now), counted .stops))
 
 between-requires-2 : tie.Need-between-requires-2
 between-requires-2 c κs =
-    let seven = c .before .before .before .before .before .before .before in
-    let s = seven .before .before .before .before .before in
+    let s = start (c .before .before .before) in
     let (sized, (hour, counted)) = s .pre in (
       omega (arith, sized .hours, sized .fall .count, sized .rise .count, sized .rise .some),
       (z (s .args .case) (s .args .list .now), counted .stops),
@@ -84,7 +79,7 @@ returns c =
     let marks = up .before in
     let was = marks .before in
     let is = was .before .before in
-    let s = is .before .before .before .before .before .before in
+    let s = start marks in
     let case = s .args .case in
     let l = s .args .list .now in
     let k = s .args .k .0 in
@@ -92,19 +87,19 @@ returns c =
     let earlier : was .output-at2 .result .0 ≡ p case l (k - 1) =
     was .output-at2 .ensures ∙ ap (p case l) (was .before .less .ensures) in
     let output = is .output-at .ensures in
-    let met : k + case .rises + case .falls - 1 ≡ k + (case .rises + case .falls - 1) = omega (arith, sized .rise .some) in
+    let n = case .rises + case .falls - 1 in
+    let met : k + case .rises + case .falls - 1 ≡ k + n = omega (arith, sized .rise .some) in
     let m = marks .marks-of .ensures in
-    let single = marked-single m in
     let start = up .sequence-at .ensures (y case l) (counts .starts) in
     let stop = shut .sequence-at2 .ensures (z case l) (counts .stops) in
     let falling = c .before .between .ensures (z case l) (counts .stops) in
     let meeting = c .between2 .ensures (z case l) (counts .stops) in
     record {
       small = record {
-        online = single .online;
-        wasonline = single .wasonline;
-        start = single .start;
-        stop = single .stop;
+        online = m .online .most;
+        wasonline = m .wasonline .most;
+        start = omega (arith, m .start .most, m .online .most);
+        stop = omega (arith, m .stop .most, m .wasonline .most);
         starting = omega (arith, start .most, sized .rise .count);
         stopping = omega (arith, stop .most, sized .fall .count);
         falling = omega (arith, falling .most, sized .fall .count);
@@ -112,17 +107,14 @@ returns c =
       };
       output = output;
       earlier = earlier ∙ ap (p case l) (sym (before-is k));
-      online = m .online ∙ ap onlineOf output ∙ sym (v-of case l k);
-      wasonline = m .wasonline ∙ ap onlineOf earlier ∙ sym (v-of case l (k - 1)) ∙ ap (v case l) (sym (before-is k));
-      start = m .start ∙ rw (earlier, output) (sym (y-of case l k hour));
-      stop = m .stop ∙ rw (earlier, output) (sym (z-of case l k hour));
+      marks = marks-at case l k hour earlier output m;
       starting = start .marks ∙ sym (starting-is case l k);
       stopping = stop .marks ∙ stopping-are case l k;
       startoutput = start .output ∙ sym (startOutput-is case l k);
       stopoutput = stop .output ∙ sym (stopOutput-is case l k);
       falling = falling .is ∙ stops-are case l k (case .falls);
       meeting = meeting .is ∙ ap (λ j. counted (z case l) j - counted (z case l) k) met
-          ∙ stops-are case l k (case .rises + case .falls - 1);
+          ∙ stops-are case l k n;
     }
 
 pub numbers-at-spec : {M : Type 1} → statement M

@@ -5,7 +5,6 @@ use native.Mathlib.Omega.{arith}
 use Prim.Native.Nat.{_+_, _*_, _≤_}
 use lib.IntN.{pos, natAbs, _*ℤ_}
 use Rattle.laws.proofs.Magnitude.{abs--, abs-*-le}
-use Rattle.hours.proofs.MarkLaws.{marked-single}
 use Rattle.profit.proofs.EarnedLaws.{hour-of}
 use Rattle.profit.proofs.hour_profit.Statement.{statement}
 use Rattle.profit.proofs.hour_profit.Tie as tie
@@ -33,8 +32,8 @@ marks-of-requires c κs = search needs
 charge-of-requires : tie.Need-charge-of-requires
 charge-of-requires c κs =
     let s = c .before .before .before .before in
-    let single = marked-single (c .marks-of .ensures) in
-    (s .pre .0, (single .online, single .start, single .stop))
+    let m = c .marks-of .ensures in
+    (s .pre .0, omega (arith, m .online .most, m .wasonline .most, m .start .most, m .stop .most))
 
 difference-requires : tie.Need-difference-requires
 difference-requires c κs =
@@ -43,18 +42,20 @@ difference-requires c κs =
 
 returns : tie.Need-returns
 returns c =
+    let cost = c .before .charge-of in
+    let marks = c .before .before .marks-of in
     let gain = c .before .before .before in
-    let net = abs-- (gain .halves .result .0) (c .before .charge-of .result .0) in
+    let net = abs-- (gain .halves .result .0) (cost .result .0) in
     λ l k h. record {
       is = c .difference .ensures
-          ∙ hour-of h (c .before .before .marks-of .ensures) (gain .halves .ensures) (c .before .charge-of .ensures .is);
+          ∙ hour-of h (marks .ensures) (gain .halves .ensures) (cost .ensures .is);
       most = omega (
         arith,
         ap natAbs (c .difference .ensures),
         ap natAbs (gain .halves .ensures),
         net,
         most gain,
-        c .before .charge-of .ensures .most,
+        cost .ensures .most,
       );
     }
 

@@ -1,11 +1,12 @@
 -- `profit::profit_of` meets its contract: the hours are added up. Assumes nothing.
 use borrow.Author.Needs.{needs}
 use native.Mathlib.Omega.{arith}
-use mathlib.Core.Path.{_≡_, sym, ap, _∙_}
-use Prim.Native.Nat.{_+_, _-_}
+use mathlib.Core.Path.{sym, ap, _∙_}
+use Prim.Native.Nat.{_+_, _-_, _^_}
 use lib.IntN.{pos, natAbs, _-ℤ_}
 use Rattle.model.specs.Symbols.{F, price}
 use Rattle.model.specs.Marks.{p}
+use Rattle.model.specs.Profit.{profitAt}
 use Rattle.model.proofs.MarksLaws.{p-zero}
 use Rattle.profit.specs.Worth.{Worth, Hourly}
 use Rattle.profit.proofs.EarnedLaws.{over-of, Earned, earned-start, earned-step, earned-end}
@@ -30,7 +31,8 @@ over : (c : tie.After-margin Inv-loop μ-loop)
     Worth (pos (price case (c .before .before .before .loop .k + 1)) -ℤ pos (F case)) 1000000 (c .margin .result .0)
 over c =
     let s = start (c .before .before) in
-    let cost = c .before .before .before .before .before .mills .ensures in
+    let opened = c .before .before .before .before in
+    let cost = opened .before .mills .ensures in
     over-of (s .args .case) (c .before .before .before .loop .k) (c .before .price-of .ensures) cost (search needs)
     (c .margin .ensures)
 
@@ -50,6 +52,14 @@ hour c =
       was = d .before .loop .inv .was ∙ ap (p (s .args .case) (s .args .list .now)) (omega arith);
       is = c .output-at .ensures;
     }
+
+worth : (c : tie.After-hour-profit Inv-loop μ-loop)
+    → let d = in-hour (c .before) in
+    Worth (profitAt (start d .args .case) (start d .args .list .now) (d .before .loop .k + 1)) (2 ^ 38)
+    (c .hour-profit .result .0)
+worth c =
+    let d = in-hour (c .before) in
+    c .hour-profit .ensures (start d .args .list .now) (d .before .loop .k + 1) (hour (c .before))
 
 mills-requires : tie.Need-mills-requires Inv-loop μ-loop
 mills-requires c κs = search needs
@@ -85,22 +95,21 @@ hour-profit-requires c κs = (start (in-hour c) .pre, over (c .before) .most)
 
 sum-requires : tie.Need-sum-requires Inv-loop μ-loop
 sum-requires c κs =
-    let d = c .before in
-    let worth = c .hour-profit .ensures (start (in-hour d) .args .list .now) (in-hour d .before .loop .k + 1) (hour d) in
-    omega (arith, in-hour d .before .loop .inv, start (in-hour d) .pre .hours, worth .most)
+    let d = in-hour (c .before) in
+    omega (arith, d .before .loop .inv, start d .pre .hours, worth c .most)
 
 loop-less : tie.Need-loop-less Inv-loop μ-loop
 loop-less c = search needs
 
 loop-again : tie.Need-loop-again Inv-loop μ-loop
 loop-again c =
-    let d = c .before .before in
-    let worth = c .before .hour-profit .ensures (start (in-hour d) .args .list .now) (in-hour d .before .loop .k + 1) (hour d) in
-    earned-step (c .before .hour-profit .result .0) (c .sum .result .0) (d .output-at .result .0) (in-hour d .before .loop .inv)
+    let is = c .before .before .output-at in
+    earned-step (c .before .hour-profit .result .0) (c .sum .result .0) (is .result .0)
+    (in-hour (c .before .before) .before .loop .inv)
     (search needs)
-    worth
+    (worth (c .before))
     (c .sum .ensures)
-    (d .output-at .ensures)
+    (is .ensures)
 
 returns : tie.Need-returns Inv-loop μ-loop
 returns c =

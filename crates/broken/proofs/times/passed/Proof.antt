@@ -18,8 +18,8 @@ returns c =
     let stop = c .later2 .ensures in
     record {
       next = λ case l k more n e. record {
-        start = start .next (h case) (y case l) k more (n .start) (e .start);
-        stop = stop .next (h case) (z case l) k more (n .stop) (e .stop);
+        start = start .next (h case) (y case l) k more (n .marks .start) (e .start);
+        stop = stop .next (h case) (z case l) k more (n .marks .stop) (e .stop);
         startmost = omega (arith, start .most, e .startmost);
         stopmost = omega (arith, stop .most, e .stopmost);
       };

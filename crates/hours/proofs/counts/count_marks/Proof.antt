@@ -1,44 +1,35 @@
 -- `hours::counts::count_marks` meets its contract: each hour adds its marks. Assumes nothing.
 use borrow.Author.Needs.{needs}
-use mathlib.Core.Path.{_≡_, refl, sym}
+use mathlib.Core.Path.{_≡_, refl}
 use native.Mathlib.Omega.{arith}
 use Prim.Native.Nat.{_-_}
 use lib.ListN.{length}
 use Rattle.model.specs.declared.Case.{Case}
-use Rattle.hours.proofs.MarkLaws.{marked-single}
-use Rattle.hours.proofs.MarkingLaws.{Marking, marking-start, marking-few, marking-step, marking-end}
+use Rattle.hours.proofs.CountLaws.{running-most}
+use Rattle.hours.proofs.MarkingLaws.{Marking, marking-start, marking-step, marking-end}
 use Rattle.hours.proofs.counts.count_marks.Statement.{statement}
 use Rattle.hours.proofs.counts.count_marks.Tie as tie
 
 abbrev Inv-loop : tie.InvT-loop
-Inv-loop list starts₀ stops₀ was₀ up₀ down₀ k₀ starts stops was up down k =
-    (c : Case) → length list ≡ c .hours → c .initial .0 ≡ was₀ .0 → Marking c list k (was .0) up down starts stops
+Inv-loop list starts₀ stops₀ was₀ k₀ starts stops was k =
+    (c : Case) → length list ≡ c .hours → c .initial .0 ≡ was₀ .0 → Marking c list k (was .0) starts stops
 
 abbrev μ-loop : tie.MeasureT-loop
-μ-loop list starts₀ stops₀ was₀ up₀ down₀ k₀ starts stops was up down k = 63 - k
+μ-loop list starts₀ stops₀ was₀ k₀ starts stops was k = 63 - k
 
-element-write-starts : tie.Need-element-write-starts Inv-loop μ-loop
-element-write-starts c = search needs
-
-element-write-stops : tie.Need-element-write-stops Inv-loop μ-loop
-element-write-stops c = search needs
-
-element-write-starts-2 : tie.Need-element-write-starts-2 Inv-loop μ-loop
-element-write-starts-2 c = search needs
-
-element-write-stops-2 : tie.Need-element-write-stops-2 Inv-loop μ-loop
-element-write-stops-2 c = search needs
+-- of the case that is given
+marking : (c : tie.At-loop Inv-loop μ-loop)
+    → let s = c .before .before .before in
+    Marking (s .args .case) (s .args .list .now) (c .loop .k) (c .loop .was .0) (c .loop .starts) (c .loop .stops)
+marking c = let s = c .before .before .before in c .loop .inv (s .args .case) (s .pre .1 .0) refl
 
 loop-holds : tie.Need-loop-holds Inv-loop μ-loop
 loop-holds c =
-    let s = c .before .before in
-    let (ups, downs) = s .pre .1 .1 in
-    λ case long e. marking-start long (s .args .starts .now) (s .args .stops .now) ups downs e
+    let (starts, stops) = c .before .before .pre .1 .1 in
+    λ case long e. marking-start long starts stops e
 
 sub-next-output : tie.Need-sub-next-output Inv-loop μ-loop
-sub-next-output c =
-    let s = c .before .before .before .before in
-    omega (arith, c .before .loop .inv (s .args .case) (s .pre .1 .0) refl .some)
+sub-next-output c = omega (arith, marking (c .before) .some)
 
 next-output-requires : tie.Need-next-output-requires Inv-loop μ-loop
 next-output-requires c κs = search needs
@@ -46,47 +37,47 @@ next-output-requires c κs = search needs
 marks-of-requires : tie.Need-marks-of-requires Inv-loop μ-loop
 marks-of-requires c κs = search needs
 
-add-up : tie.Need-add-up Inv-loop μ-loop
-add-up c =
-    let m = c .before in
-    let at = m .before .before .before in
-    let s = at .before .before .before in
-    let few = marking-few (s .pre .1 .0) (at .loop .inv (s .args .case) (s .pre .1 .0) refl) in
-    omega (arith, few .0, marked-single (m .marks-of .ensures) .start)
+add-next : tie.Need-add-next Inv-loop μ-loop
+add-next c = search needs
 
-add-down : tie.Need-add-down Inv-loop μ-loop
-add-down c =
+element-copy-out-starts : tie.Need-element-copy-out-starts Inv-loop μ-loop
+element-copy-out-starts c = search needs
+
+add-starts : tie.Need-add-starts Inv-loop μ-loop
+add-starts c =
     let m = c .before .before in
     let at = m .before .before .before in
-    let s = at .before .before .before in
-    let few = marking-few (s .pre .1 .0) (at .loop .inv (s .args .case) (s .pre .1 .0) refl) in
-    omega (arith, few .1, marked-single (m .marks-of .ensures) .stop)
+    omega (arith, m .marks-of .ensures, running-most (marking at .starts))
 
-add-k : tie.Need-add-k Inv-loop μ-loop
-add-k c = search needs
+element-write-starts : tie.Need-element-write-starts Inv-loop μ-loop
+element-write-starts c = search needs
 
-element-write-starts-3 : tie.Need-element-write-starts-3 Inv-loop μ-loop
-element-write-starts-3 c = search needs
+element-copy-out-stops : tie.Need-element-copy-out-stops Inv-loop μ-loop
+element-copy-out-stops c = search needs
 
-element-write-stops-3 : tie.Need-element-write-stops-3 Inv-loop μ-loop
-element-write-stops-3 c = search needs
+add-stops : tie.Need-add-stops Inv-loop μ-loop
+add-stops c =
+    let m = c .before .before .before .before in
+    let at = m .before .before .before in
+    omega (arith, m .marks-of .ensures, running-most (marking at .stops))
+
+element-write-stops : tie.Need-element-write-stops Inv-loop μ-loop
+element-write-stops c = search needs
 
 loop-less : tie.Need-loop-less Inv-loop μ-loop
 loop-less c = search needs
 
 loop-again : tie.Need-loop-again Inv-loop μ-loop
 loop-again c =
-    let d = c .before .before in
-    let at = d .before .before .before in
-    λ case long e. marking-step long (d .before .next-output .result .0) (d .marks-of .result) (at .loop .inv case long e)
-    (search needs)
-    (d .before .next-output .ensures)
-    (d .marks-of .ensures)
+    let m = c .before .before .before .before in
+    let is = m .before .next-output in
+    let inv = m .before .before .before .loop .inv in
+    λ case long e. marking-step long (is .result .0) (m .marks-of .result) (inv case long e) (search needs)
+    (is .ensures)
+    (m .marks-of .ensures)
 
 returns : tie.Need-returns Inv-loop μ-loop
-returns c =
-    let s = c .before .before .before .before in
-    marking-end (s .pre .1 .0) (c .before .loop .inv (s .args .case) (s .pre .1 .0) refl) (search needs)
+returns c = marking-end (c .before .before .before .before .pre .1 .0) (marking (c .before)) (search needs)
 
 pub count-marks-spec : {M : Type 1} → statement M
 count-marks-spec =
@@ -94,19 +85,17 @@ count-marks-spec =
     (tie.spec
     Inv-loop
     μ-loop
-    element-write-starts
-    element-write-stops
-    element-write-starts-2
-    element-write-stops-2
     loop-holds
     sub-next-output
     next-output-requires
     marks-of-requires
-    add-up
-    add-down
-    add-k
-    element-write-starts-3
-    element-write-stops-3
+    add-next
+    element-copy-out-starts
+    add-starts
+    element-write-starts
+    element-copy-out-stops
+    add-stops
+    element-write-stops
     loop-less
     loop-again
     returns)

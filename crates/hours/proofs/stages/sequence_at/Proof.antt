@@ -1,7 +1,7 @@
 -- `hours::stages::sequence_at` meets its contract: where an hour is marked, the terms are added up one by one. Assumes
 -- nothing.
 use borrow.Author.Needs.{needs}
-use mathlib.Core.Path.{_≡_, refl, sym, ap, _∙_}
+use mathlib.Core.Path.{_≡_, sym, ap, _∙_}
 use mathlib.Core.List.{List}
 use native.Mathlib.Omega.{arith}
 use Prim.Native.Nat.{ℕ, _+_, _-_, _*_}
@@ -24,9 +24,16 @@ Inv-loop n counts stages hour₀ marks total₀ i₀ hour total i = Added counts
 abbrev μ-loop : tie.MeasureT-loop
 μ-loop n counts stages hour₀ marks total₀ i₀ hour total i = n - i
 
+abbrev start : tie.At-loop Inv-loop μ-loop → tie.Start Inv-loop μ-loop
+start c = c .before .before .before .before .before
+
+abbrev in-loop : tie.After-between2 Inv-loop μ-loop → tie.At-loop Inv-loop μ-loop
+in-loop c = c .before .before .before .before
+
 -- the hours are marked as often as the counts say
-marked : (c : tie.After-between Inv-loop μ-loop) (f : ℕ → ℕ) → Running f 63 (c .before .before .before .args .counts .now)
-    → c .between .result ≡ sum (λ i. f (c .before .before .before .args .k .0 + 1 - i)) (c .before .before .before .args .n)
+marked : (c : tie.After-between Inv-loop μ-loop)
+    → let a = c .before .before .before .args in
+    (f : ℕ → ℕ) → Running f 63 (a .counts .now) → c .between .result ≡ sum (λ i. f (a .k .0 + 1 - i)) (a .n)
 marked c f r =
     let a = c .before .before .before .args in
     let back = counted-back f (r .none) (a .k .0 + 1) (a .n) in
@@ -67,7 +74,7 @@ add-t17 c = search needs
 between-requires-2 : tie.Need-between-requires-2 Inv-loop μ-loop
 between-requires-2 c κs =
     let at = c .before .before .before in
-    let s = at .before .before .before .before .before in
+    let s = start at in
     (omega (arith, at .loop .inv .at, c .before .less2 .ensures, s .pre), s .pre .1 .1)
 
 mul-scaled : tie.Need-mul-scaled Inv-loop μ-loop
@@ -78,8 +85,8 @@ array-copy-out-scaled c = search needs
 
 scaled-requires : tie.Need-scaled-requires Inv-loop μ-loop
 scaled-requires c κs =
-    let at = c .before .before .before .before .before in
-    let s = at .before .before .before .before .before in
+    let at = in-loop (c .before) in
+    let s = start at in
     let (f, r) = s .pre .1 .1 in (
       omega (arith, s .pre .0 .most (at .loop .i + 1) (search needs), stage-more (s .args .t1) (at .loop .i)),
       omega (arith, c .before .between2 .ensures f r .most),
@@ -87,8 +94,8 @@ scaled-requires c κs =
 
 plus-requires : tie.Need-plus-requires Inv-loop μ-loop
 plus-requires c κs =
-    let at = c .before .before .before .before .before .before in
-    let s = at .before .before .before .before .before in
+    let at = in-loop (c .before .before) in
+    let s = start at in
     let (f, r) = s .pre .1 .1 in
     omega (arith, at .loop .inv .added f r .most, c .scaled .ensures .most, s .pre .0 .count)
 
@@ -101,15 +108,16 @@ loop-less c = search needs
 loop-again : tie.Need-loop-again Inv-loop μ-loop
 loop-again c =
     let d = c .before .before .before in
-    let at = d .before .before .before .before in
-    let s = at .before .before .before .before .before in
-    let hour : d .before .before .less2 .result .0 ≡ s .args .k .0 + 1 - (at .loop .i + 1) =
-    omega (arith, d .before .before .less2 .ensures, at .loop .inv .at) in
+    let at = in-loop d in
+    let s = start at in
+    let less = d .before .before .less2 in
+    let hour : less .result .0 ≡ s .args .k .0 + 1 - (at .loop .i + 1) =
+    omega (arith, less .ensures, at .loop .inv .at) in
     record {
       at = hour;
       added = λ f r.
           let mark : d .between2 .result ≡ f (s .args .k .0 + 1 - (at .loop .i + 1)) =
-          omega (arith, d .between2 .ensures f r .is, counted-more f (d .before .before .less2 .result .0), ap f hour) in
+          omega (arith, d .between2 .ensures f r .is, counted-more f (less .result .0), ap f hour) in
           rw (c .plus .ensures)
           (summed-step (c .before .scaled .result .0) (at .loop .inv .added f r) (search needs)
           (c .before .scaled .ensures .is ∙ cc (stage-more (s .args .t1) (at .loop .i)))

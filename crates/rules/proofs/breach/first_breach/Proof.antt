@@ -13,10 +13,13 @@ start c =
     counted .before .before .before .before
 
 -- the rule of hour 0
-edge : (c : tie.After-broken-edge) → c .broken-edge .result ≡ brokenAt (start c .args .case) (start c .args .list .now) 0
+edge : (c : tie.After-broken-edge)
+    → let a = start c .args in
+    c .broken-edge .result ≡ brokenAt (a .case) (a .list .now) 0
 edge c =
     let a = start c .args in
-    c .broken-edge .ensures (a .list .now) 0 (c .before .numbers-at .ensures) ∙ sym (brokenAt-zero (a .case) (a .list .now))
+    let l = a .list .now in
+    c .broken-edge .ensures l 0 (c .before .numbers-at .ensures) ∙ sym (brokenAt-zero (a .case) l)
 
 count-marks-requires : tie.Need-count-marks-requires
 count-marks-requires c κs = search needs

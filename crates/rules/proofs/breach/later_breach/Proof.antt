@@ -1,9 +1,7 @@
 -- `rules::breach::later_breach` meets its contract: hours that break no rule are passed one by one. Assumes nothing.
 use borrow.Author.Needs.{needs}
-use mathlib.Core.Path.{_≡_, _∙_, sym, ap}
-use native.Mathlib.Omega.{arith}
+use mathlib.Core.Path.{_≡_, _∙_, sym}
 use Prim.Native.Nat.{_+_, _-_}
-use Rattle.model.specs.Symbols.{order}
 use Rattle.model.specs.Rules.{brokenAt}
 use Rattle.model.proofs.CheckLaws.{hourly-at}
 use Rattle.rules.proofs.BreachLaws.{Kept, kept-start, kept-step, kept-broken, kept-end}
@@ -26,8 +24,9 @@ broken : (c : tie.After-broken-at Inv-loop μ-loop)
 broken c =
     let loop = c .before .before .before .loop in
     let a = start (c .before .before) .args in
-    c .broken-at .ensures (a .list .now) (loop .k) (loop .inv .some) (c .before .numbers-at .ensures) (loop .inv .elapsed)
-    (sym (hourly-at (a .case .orders) (loop .k) (loop .inv .some)))
+    let some = loop .inv .some in
+    c .broken-at .ensures (a .list .now) (loop .k) some (c .before .numbers-at .ensures) (loop .inv .elapsed)
+    (sym (hourly-at (a .case .orders) (loop .k) some))
 
 opening-requires : tie.Need-opening-requires Inv-loop μ-loop
 opening-requires c κs = c .before .before .pre .0
@@ -69,11 +68,11 @@ loop-less c = search needs
 loop-again : tie.Need-loop-again Inv-loop μ-loop
 loop-again c =
     let d = c .before .before in
-    let at = d .before .before .before in
+    let loop = d .before .before .before .loop in
     let a = start (d .before .before) .args in
-    kept-step (at .loop .inv) (c .passed .result) (search needs) (sym (broken d) ∙ c .before .if1 .left)
-    (c .passed .ensures .next (a .case) (a .list .now) (at .loop .k) (at .loop .inv .some) (d .before .numbers-at .ensures)
-    (at .loop .inv .elapsed))
+    let next = c .passed .ensures .next (a .case) (a .list .now) (loop .k) (loop .inv .some) in
+    kept-step (loop .inv) (c .passed .result) (search needs) (sym (broken d) ∙ c .before .if1 .left)
+    (next (d .before .numbers-at .ensures) (loop .inv .elapsed))
 
 returns-2 : tie.Need-returns-2 Inv-loop μ-loop
 returns-2 c = kept-end (c .before .loop .inv) (search needs)
