@@ -77,7 +77,7 @@ module _ {f : ℕ → ℕ} where
       at (suc zero) m = ap (λ l. getD l 1 0) e ∙ omega (arith, counted-zero f, counted-more f 0)
       at (suc (suc k)) m = absurd (omega arith)
 
-  pub running-step : {n : ℕ} {xs : List ℕ} (x : ℕ) → Running f n xs → n < 63 → x ≡ getD xs n 0 + f n
+  pub running-step : {n : ℕ} {xs : List ℕ} (x : ℕ) → Running f n xs → n < 63 → x ≡ counted f (n + 1)
       → Running f (n + 1) (set xs (n + 1) x)
   running-step {n} {xs} x r h e =
       record {
@@ -89,12 +89,11 @@ module _ {f : ℕ → ℕ} where
     where
       go : (k : ℕ) → k ≤ n + 1 → Dec (k ≡ n + 1) → getD (set xs (n + 1) x) k 0 ≡ counted f k
       go k m (yes q) =
-          let here : x ≡ counted f (n + 1) = omega (arith, counted-more f n, r .at n (omega arith)) in
           let room : n + 1 < length xs = omega (arith, r .long) in
-          ap (λ i. getD (set xs (n + 1) x) i 0) q ∙ getD-set-same xs (n + 1) x 0 room ∙ here ∙ ap (counted f) (sym q)
+          ap (λ i. getD (set xs (n + 1) x) i 0) q ∙ getD-set-same xs (n + 1) x 0 room ∙ e ∙ ap (counted f) (sym q)
       go k m (no q) = getD-set-other xs (n + 1) k x 0 q ∙ r .at k (omega arith)
 
-  pub running-most : {n : ℕ} {xs : List ℕ} → Running f n xs → getD xs n 0 ≤ n
-  running-most {n} r =
-      let from : counted f (0 + n) ≡ counted f n = ap (counted f) (omega arith) in
-      omega (arith, r .at n (omega arith), counted-apart f (r .once) 0 n, counted-zero f)
+  pub counted-most : ((k : ℕ) → f k ≤ 1) → (k : ℕ) → counted f k ≤ k
+  counted-most once k =
+      let from : counted f (0 + k) ≡ counted f k = ap (counted f) (omega arith) in
+      omega (arith, counted-apart f once 0 k, counted-zero f)

@@ -5,7 +5,7 @@ use mathlib.Core.List.{List}
 use Prim.Native.Nat.{ℕ, _+_, _-_, _≤_, _<_}
 use native.Mathlib.Nat.{eq-zero-or-pos}
 use native.Mathlib.Omega.{arith}
-use lib.ListN.{length, getD, set, replicate}
+use lib.ListN.{length, set, replicate}
 use Rattle.model.specs.declared.Case.{Case}
 use Rattle.model.specs.Symbols.{last}
 use Rattle.model.specs.Marks.{p, y, z}
@@ -13,15 +13,17 @@ use Rattle.model.proofs.MarksLaws.{p-zero, p-later, y-zero, z-zero, y-past, z-p
 use Rattle.model.proofs.TimesLaws.{y-le, z-le}
 use Rattle.hours.specs.declared.marks.Marks.{Marks}
 use Rattle.hours.specs.Marked.{Marked, Next}
-use Rattle.hours.specs.Counted.{Running, Counted}
+use Rattle.hours.specs.Counted.{counted, Running, Counted}
 use Rattle.hours.proofs.MarkLaws.{stays, marks-at}
-use Rattle.hours.proofs.CountLaws.{running-start, running-step}
+use Rattle.hours.proofs.CountLaws.{counted-zero, counted-more, counted-most, running-start, running-step}
 
--- hours 1 to k − 1 are counted, and the last ends at output q
-pub record Marking (c : Case) (l : List ℕ) (k q : ℕ) (ups downs : List ℕ) : Type 0 where
+-- hours 1 to k − 1 are counted, a starts and b stops, and the last ends at output q
+pub record Marking (c : Case) (l : List ℕ) (k q a b : ℕ) (ups downs : List ℕ) : Type 0 where
   pub some : 0 < k
   pub most : k ≤ 63
   pub was : k ≤ last c + 1 → q ≡ p c l (k - 1)
+  pub up : a ≡ counted (y c l) k
+  pub down : b ≡ counted (z c l) k
   pub starts : Running (y c l) k ups
   pub stops : Running (z c l) k downs
 
@@ -52,31 +54,44 @@ module _ {c : Case} {l : List ℕ} (long : length l ≡ last c) where
           }
 
   pub marking-start : {q : ℕ} {ups downs : List ℕ} → ups ≡ replicate 64 0 → downs ≡ replicate 64 0 → c .initial .0 ≡ q
-      → Marking c l 1 q ups downs
+      → Marking c l 1 q 0 0 ups downs
   marking-start a b e =
       record {
         some = omega arith;
         most = omega arith;
         was = λ _. sym e ∙ sym (p-zero c l) ∙ ap (p c l) (let f : 0 ≡ 1 - 1 = omega arith in f);
+        up = omega (arith, counted-zero (y c l), counted-more (y c l) 0, y-zero c l);
+        down = omega (arith, counted-zero (z c l), counted-more (z c l) 0, z-zero c l);
         starts = running-start a (y-zero c l) (y-le c l);
         stops = running-start b (z-zero c l) (z-le c l);
       }
 
-  pub marking-step : {k q : ℕ} {ups downs : List ℕ} (r : ℕ) (m : Marks) → Marking c l k q ups downs → k < 63
+  pub marking-step : {k q a b : ℕ} {ups downs : List ℕ} (r : ℕ) (m : Marks) → Marking c l k q a b ups downs → k < 63
       → Next l (k - 1) q r → Marked q r m
-      → Marking c l (k + 1) r (set ups (k + 1) (getD ups k 0 + m .start)) (set downs (k + 1) (getD downs k 0 + m .stop))
-  marking-step {k} {q} {ups} {downs} r m h less n e =
+      → Marking c l (k + 1) r (a + m .start) (b + m .stop) (set ups (k + 1) (a + m .start))
+      (set downs (k + 1) (b + m .stop))
+  marking-step {k} {q} {a} {b} r m h less n e =
       let s = here k (h .some) (h .was) n e in
+      let up : a + m .start ≡ counted (y c l) (k + 1) = omega (arith, h .up, s .start, counted-more (y c l) k) in
+      let down : b + m .stop ≡ counted (z c l) (k + 1) = omega (arith, h .down, s .stop, counted-more (z c l) k) in
       record {
         some = omega arith;
         most = omega arith;
         was = λ g. s .is (omega arith) ∙ ap (p c l) (let same : k ≡ k + 1 - 1 = omega arith in same);
-        starts = running-step _ (h .starts) less (ap (λ x. getD ups k 0 + x) (s .start));
-        stops = running-step _ (h .stops) less (ap (λ x. getD downs k 0 + x) (s .stop));
+        up = up;
+        down = down;
+        starts = running-step (a + m .start) (h .starts) less up;
+        stops = running-step (b + m .stop) (h .stops) less down;
       }
 
-  pub marking-end : {k q : ℕ} {ups downs : List ℕ} → Marking c l k q ups downs → 63 ≤ k → Counted c l ups downs
-  marking-end {k} {q} {ups} {downs} h m =
+  pub marking-few : {k q a b : ℕ} {ups downs : List ℕ} → Marking c l k q a b ups downs → (a ≤ k) × (b ≤ k)
+  marking-few {k} h = (
+    omega (arith, h .up, counted-most (y-le c l) k),
+    omega (arith, h .down, counted-most (z-le c l) k),
+  )
+
+  pub marking-end : {k q a b : ℕ} {ups downs : List ℕ} → Marking c l k q a b ups downs → 63 ≤ k → Counted c l ups downs
+  marking-end {k} {q} {a} {b} {ups} {downs} h m =
       let e : k ≡ 63 = omega (arith, h .most) in
       record {
         starts = subst (λ n. Running (y c l) n ups) e (h .starts);

@@ -40,15 +40,18 @@ pub fn count_marks(case: Case, list: &[u16], starts: &mut [u8; COUNTS], stops: &
     ensures { λ _. ⌜ Counted case (now (list .entry)) (now (starts .exit)) (now (stops .exit)) ⌝ }
 {
     let mut was = case.initial;
+    let mut up = 0;
+    let mut down = 0;
     let mut k = 1;
     while k < 63 {
         let is = next_output(list, k - 1, was);
         let marks = marks_of(was, is);
-        let next = k + 1;
-        starts[next] = starts[k] + marks.start;
-        stops[next] = stops[k] + marks.stop;
+        up += marks.start;
+        down += marks.stop;
+        k += 1;
+        starts[k] = up;
+        stops[k] = down;
         was = is;
-        k = next;
     }
 }
 

@@ -2,26 +2,29 @@
 use borrow.Author.Needs.{needs}
 use mathlib.Core.Path.{_≡_, refl}
 use native.Mathlib.Omega.{arith}
-use Prim.Native.Nat.{_-_}
+use Prim.Native.Nat.{_-_, _≤_}
 use lib.ListN.{length}
 use Rattle.model.specs.declared.Case.{Case}
-use Rattle.hours.proofs.CountLaws.{running-most}
-use Rattle.hours.proofs.MarkingLaws.{Marking, marking-start, marking-step, marking-end}
+use Rattle.hours.proofs.MarkingLaws.{Marking, marking-start, marking-few, marking-step, marking-end}
 use Rattle.hours.proofs.counts.count_marks.Statement.{statement}
 use Rattle.hours.proofs.counts.count_marks.Tie as tie
 
 abbrev Inv-loop : tie.InvT-loop
-Inv-loop list starts₀ stops₀ was₀ k₀ starts stops was k =
-    (c : Case) → length list ≡ c .hours → c .initial .0 ≡ was₀ .0 → Marking c list k (was .0) starts stops
+Inv-loop list starts₀ stops₀ was₀ up₀ down₀ k₀ starts stops was up down k =
+    (c : Case) → length list ≡ c .hours → c .initial .0 ≡ was₀ .0 → Marking c list k (was .0) up down starts stops
 
 abbrev μ-loop : tie.MeasureT-loop
-μ-loop list starts₀ stops₀ was₀ k₀ starts stops was k = 63 - k
+μ-loop list starts₀ stops₀ was₀ up₀ down₀ k₀ starts stops was up down k = 63 - k
 
 -- of the case that is given
 marking : (c : tie.At-loop Inv-loop μ-loop)
-    → let s = c .before .before .before in
-    Marking (s .args .case) (s .args .list .now) (c .loop .k) (c .loop .was .0) (c .loop .starts) (c .loop .stops)
+    → let a = c .before .before .before .args in
+    let now = c .loop in
+    Marking (a .case) (a .list .now) (now .k) (now .was .0) (now .up) (now .down) (now .starts) (now .stops)
 marking c = let s = c .before .before .before in c .loop .inv (s .args .case) (s .pre .1 .0) refl
+
+few : (c : tie.At-loop Inv-loop μ-loop) → (c .loop .up ≤ c .loop .k) × (c .loop .down ≤ c .loop .k)
+few c = marking-few (c .before .before .before .pre .1 .0) (marking c)
 
 loop-holds : tie.Need-loop-holds Inv-loop μ-loop
 loop-holds c =
@@ -37,29 +40,21 @@ next-output-requires c κs = search needs
 marks-of-requires : tie.Need-marks-of-requires Inv-loop μ-loop
 marks-of-requires c κs = search needs
 
-add-next : tie.Need-add-next Inv-loop μ-loop
-add-next c = search needs
+add-up : tie.Need-add-up Inv-loop μ-loop
+add-up c =
+    let m = c .before in
+    omega (arith, m .marks-of .ensures, few (m .before .before .before) .0)
 
-element-copy-out-starts : tie.Need-element-copy-out-starts Inv-loop μ-loop
-element-copy-out-starts c = search needs
-
-add-starts : tie.Need-add-starts Inv-loop μ-loop
-add-starts c =
+add-down : tie.Need-add-down Inv-loop μ-loop
+add-down c =
     let m = c .before .before in
-    let at = m .before .before .before in
-    omega (arith, m .marks-of .ensures, running-most (marking at .starts))
+    omega (arith, m .marks-of .ensures, few (m .before .before .before) .1)
+
+add-k : tie.Need-add-k Inv-loop μ-loop
+add-k c = search needs
 
 element-write-starts : tie.Need-element-write-starts Inv-loop μ-loop
 element-write-starts c = search needs
-
-element-copy-out-stops : tie.Need-element-copy-out-stops Inv-loop μ-loop
-element-copy-out-stops c = search needs
-
-add-stops : tie.Need-add-stops Inv-loop μ-loop
-add-stops c =
-    let m = c .before .before .before .before in
-    let at = m .before .before .before in
-    omega (arith, m .marks-of .ensures, running-most (marking at .stops))
 
 element-write-stops : tie.Need-element-write-stops Inv-loop μ-loop
 element-write-stops c = search needs
@@ -69,11 +64,10 @@ loop-less c = search needs
 
 loop-again : tie.Need-loop-again Inv-loop μ-loop
 loop-again c =
-    let m = c .before .before .before .before in
+    let m = c .before .before in
     let is = m .before .next-output in
     let inv = m .before .before .before .loop .inv in
-    λ case long e. marking-step long (is .result .0) (m .marks-of .result) (inv case long e) (search needs)
-    (is .ensures)
+    λ case long e. marking-step long (is .result .0) (m .marks-of .result) (inv case long e) (search needs) (is .ensures)
     (m .marks-of .ensures)
 
 returns : tie.Need-returns Inv-loop μ-loop
@@ -89,12 +83,10 @@ count-marks-spec =
     sub-next-output
     next-output-requires
     marks-of-requires
-    add-next
-    element-copy-out-starts
-    add-starts
+    add-up
+    add-down
+    add-k
     element-write-starts
-    element-copy-out-stops
-    add-stops
     element-write-stops
     loop-less
     loop-again
