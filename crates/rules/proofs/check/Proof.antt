@@ -29,21 +29,23 @@ refusal-of-requires c κs = search needs
 returns-2 : tie.Need-returns-2
 returns-2 c =
     let d = c .before in
-    let a = d .before .before .before .before .before .args in
+    let read = d .before .before in
+    let a = read .before .before .before .args in
     let case = a .reading .case in
     let l = a .list .now in
     ap NotChecked (d .refusal-of .ensures)
-    ∙ sym (ap (λ o. checkOf o case l) (d .before .before .enum-told .given .1)
+    ∙ sym (ap (λ o. checkOf o case l) (read .enum-told .given .1)
     ∙ checkOf-outside case l (λ z. c .if1 .taken (d .refusal-of .ensures ∙ z)))
 
 returns-3 : tie.Need-returns-3
 returns-3 c =
     let e = c .before .before in
     let d = e .before in
-    let a = d .before .before .before .before .before .args in
+    let read = d .before .before in
+    let a = read .before .before .before .args in
     let case = a .reading .case in
     let l = a .list .now in
-    sym (ap (λ o. checkOf o case l) (d .before .before .enum-told .given .1)
+    sym (ap (λ o. checkOf o case l) (read .enum-told .given .1)
     ∙ checkOf-length case l (sym (d .refusal-of .ensures) ∙ e .if1 .left) (c .if2 .taken))
 
 judge-requires : tie.Need-judge-requires
@@ -54,11 +56,12 @@ returns-4 c =
     let f = c .before in
     let e = f .before .before in
     let d = e .before in
-    let a = d .before .before .before .before .before .args in
+    let read = d .before .before in
+    let a = read .before .before .before .args in
     let case = a .reading .case in
     let l = a .list .now in
     c .judge .ensures
-    ∙ sym (ap (λ o. checkOf o case l) (d .before .before .enum-told .given .1)
+    ∙ sym (ap (λ o. checkOf o case l) (read .enum-told .given .1)
     ∙ checkOf-judged case l (sym (d .refusal-of .ensures) ∙ e .if1 .left) (f .if2 .left))
 
 pub check-spec : {M : Type 1} → statement M

@@ -18,8 +18,9 @@ profit-of-requires c κs = let start = c .before .before .before .before in pric
 
 returns : tie.Need-returns
 returns c =
-    let found = c .before .before .before .first-breach in
-    let a = c .before .before .before .before .before .args in
+    let d = c .before .before .before in
+    let found = d .first-breach in
+    let a = d .before .before .args in
     let none = found .ensures ∙ found-none (found .result) (c .before .if1 .taken) in
     ap (λ x. Passes (record { 0 = x })) (c .profit-of .ensures .is)
     ∙ sym (ap (judged (a .case) (a .list .now)) none ∙ judged-none (a .case) (a .list .now))

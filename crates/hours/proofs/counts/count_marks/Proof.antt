@@ -67,8 +67,9 @@ loop-again c =
     let m = c .before .before in
     let is = m .before .next-output in
     let inv = m .before .before .before .loop .inv in
-    λ case long e. marking-step long (is .result .0) (m .marks-of .result) (inv case long e) (search needs) (is .ensures)
-    (m .marks-of .ensures)
+    let marks = m .marks-of in
+    λ case long e. marking-step long (is .result .0) (marks .result) (inv case long e) (search needs) (is .ensures)
+    (marks .ensures)
 
 returns : tie.Need-returns Inv-loop μ-loop
 returns c = marking-end (c .before .before .before .before .pre .1 .0) (marking (c .before)) (search needs)
