@@ -37,7 +37,8 @@ module _ (c : Case) (e : refusalOf c ≡ 0) (fit : Fit (unitOf c))
   present l b =
       let w = worth-profit c e l b in
       rw (found .profit ∙ ap coded w)
-      (amount-above (profitOf c l) (subst (Bounded (2 ^ 42)) w (worth-size (unitOf c) fit (termsOf c) fair 0 (openingOf c))))
+      (amount-above (profitOf c l) (subst (Bounded (2 ^ 42)) w
+      (worth-size (unitOf c) fit (termsOf c) fair 0 (openingOf c))))
 
   absent : bestDay c ≡ none → leZ z missing ≡ true
   absent b = rw (found .profit ∙ ap coded (worth-none c e b)) refl

@@ -20,7 +20,7 @@ ghost use Prim.Native.Nat.{_≤_};
 ghost use lib.ListN.{length, drop};
 ghost use Rattle.model.specs.Limits.{workLength};
 ghost use Rattle.model.specs.Best.{bestDay};
-ghost use Rattle.model.specs.Refusals.{refusalOf, refusal10};
+ghost use Rattle.model.specs.Refusals.{refusalOf};
 ghost use Rattle.model.specs.Answers.{outcomeNumber, planned, scheduleOf};
 ghost use Rattle.machine.specs.Moves.{dayOf};
 ghost use Rattle.machine.specs.Fit.{Fit};

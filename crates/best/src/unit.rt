@@ -1,5 +1,5 @@
-// The unit of a case as the search sees it, the margins, orders and charges of its hours, and the state in which its day
-// opens (machine's specs/Cases).
+// The unit of a case as the search sees it, the margins, orders and charges of its hours, and the state in which its
+// day opens (machine's specs/Cases).
 ghost use mathlib.Core.Path.{_≡_};
 ghost use Prim.Native.Nat.{ℕ, _≤_, _<_};
 ghost use lib.ListN.{getD, replicate};

@@ -55,9 +55,11 @@ module _ (c : Case) (accepted : refusalOf c ≡ 0) where
   tops-of-least : (l m : List ℕ) → length l ≡ length m → AtLeast (profitOf c l) l (profitOf c m) m
       → (m ≡ l) ⊎ T (leads (profitOf c) l m)
   tops-of-least l m n (earnsMore h) = inr (leads-more (profitOf c) l m h)
-  tops-of-least l m n (sameAndLower e h) = ⊎-map (λ d. d) (leads-lower (profitOf c) l m (omega linear)) (lower-of-⊑ l m n h)
+  tops-of-least l m n (sameAndLower e h) =
+      ⊎-map (λ d. d) (leads-lower (profitOf c) l m (omega linear)) (lower-of-⊑ l m n h)
 
-  best-of-first : (l : List ℕ) → Rattle.machine.specs.Order.Best (keeps c) (profitOf c) l → Best (keeps c) (profitOf c) l
+  best-of-first : (l : List ℕ) → Rattle.machine.specs.Order.Best (keeps c) (profitOf c) l
+      → Best (keeps c) (profitOf c) l
   best-of-first l b =
       record {
         kept = b .kept;

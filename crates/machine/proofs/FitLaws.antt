@@ -97,7 +97,8 @@ module _ (c : Case) (lim : Limits c) where
   proper = go (eqb (p0 c) 0) refl
     where
       go : (t : Bool) → eqb (p0 c) 0 ≡ t
-          → Proper (unitOf c) (cond t (idle (min (h c) (c .mindown .0))) (running (p0 c) (c .minup .0 + 1 - (h c + DD c))))
+          → Proper (unitOf c) (cond t (idle (min (h c) (c .mindown .0)))
+          (running (p0 c) (c .minup .0 + 1 - (h c + DD c))))
       go true e = (omega (arith, lim .elapsed-pos, lim .mindown-pos), omega arith)
       go false e =
           let on : 1 ≤ p0 c = omega (arith, eqb-false (p0 c) 0 e) in

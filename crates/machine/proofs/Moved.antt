@@ -82,7 +82,8 @@ module _ (c : Case) (lim : Limits c) where
           let top : suc (suc i) ≡ UD c = omega (arith, ltb-false (i + 1 + 1) (UD c) e) in
           let low : q ≡ low c = out ∙ ap (PU c) top ∙ lim .rise-top in
           lands (run q (suc (suc i))) (reach (suc i) low top)
-          (ap (λ n. running n (c .minup .0 + 1 - (suc (suc i) + DD c))) low ∙ ap (running (c .minimum .0)) (omega arith) ∙ f)
+          (ap (λ n. running n (c .minup .0 + 1 - (suc (suc i) + DD c))) low ∙ ap (running (c .minimum .0)) (omega arith)
+          ∙ f)
 
   -- on-line: a ramp, or the beginning of a shut-down
   module _ (r w q : ℕ) (x : State) (k : move (unitOf c) (running r (c .minup .0 + 1 - (w + DD c))) q ≡ some x) where
@@ -128,7 +129,10 @@ module _ (c : Case) (lim : Limits c) where
             (ap (running q) (omega arith) ∙ follow-run (unitOf c) (record { 0 = r }) (record { 0 = j }) q x l k)
         go false e =
             let l = leb-false (low c) q e in
-            sank l (ltb 1 (DD c)) refl (left l .0) (follow-leave (unitOf c) (record { 0 = r }) (record { 0 = j }) q x l k)
+            sank l (ltb 1 (DD c)) refl (left l .0) (follow-leave (unitOf c) (record {
+              0 =
+                  r;
+            }) (record { 0 = j }) q x l k)
 
   -- in a shut-down: the next entry, or 0
   from-down : (i q : ℕ) (x : State) → suc i ≤ DD c → move (unitOf c) (Fall i) q ≡ some x → Lands c q (down (suc i)) x

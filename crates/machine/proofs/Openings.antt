@@ -63,9 +63,11 @@ module _ (c : Case) where
         let (r, n) = runs-of-earned c lim l (last c) 0 (first c (p0 c)) v (omega arith) (good-first lim) e in
         keeps-runs c l lim .1 (n, r)
 
-    pub outcome-earned : outcome (machine (unitOf c) (termsOf c)) 0 (last c) (openingOf c) l ≡ earned (keeps c) (profitOf c) l
+    pub outcome-earned : outcome (machine (unitOf c) (termsOf c)) 0 (last c) (openingOf c) l
+        ≡ earned (keeps c) (profitOf c) l
     outcome-earned =
-        subst (λ s. outcome (machine (unitOf c) (termsOf c)) 0 (last c) s l ≡ earned (keeps c) (profitOf c) l) image-first
+        subst (λ s. outcome (machine (unitOf c) (termsOf c)) 0 (last c) s l ≡ earned (keeps c) (profitOf c) l)
+        image-first
         (go (keeps c l) refl Outcome refl)
       where
         go : (t : Bool) → keeps c l ≡ t → (x : Option ℤ)

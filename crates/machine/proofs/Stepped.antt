@@ -40,7 +40,8 @@ module _ (c : Case) (lim : Limits c) where
         le-leb (c .mindown .0) (min d (c .mindown .0)) (omega arith),
         le-ltb (0 + 1) (UD c) (omega arith),
       )
-      (ap (λ n. some (running (low c) n)) (omega arith) ∙ ap (λ n. some (running n (c .minup .0 + 1 - (1 + DD c)))) (sym e))
+      (ap (λ n. some (running (low c) n)) (omega arith)
+      ∙ ap (λ n. some (running n (c .minup .0 + 1 - (1 + DD c)))) (sym e))
   step-move q (up zero) t g x = absurd (omega (arith, g .0))
   step-move q (up (suc i)) t g (climb i₁ e l) =
       rw (

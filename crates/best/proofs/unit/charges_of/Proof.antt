@@ -19,7 +19,9 @@ halved-requires-2 : tie.Need-halved-requires-2
 halved-requires-2 c κs = search needs
 
 mul-halved-3 : tie.Need-mul-halved-3
-mul-halved-3 c = omega (arith, limits-of-refusalOf _ (c .before .before .before .before .before .pre) .stopcost-le)
+mul-halved-3 c =
+    let s = c .before .before .before .before .before in
+    omega (arith, limits-of-refusalOf _ (s .pre) .stopcost-le)
 
 halved-requires-3 : tie.Need-halved-requires-3
 halved-requires-3 c κs = search needs
@@ -33,4 +35,6 @@ returns c =
     λ i. record { holds = record { 0 = holds i }; starts = record { 0 = starts i }; stops = record { 0 = stops i } }
 
 pub charges-of-spec : {M : Type 1} → statement M
-charges-of-spec = tie.close (tie.spec mul-halved halved-requires mul-halved-2 halved-requires-2 mul-halved-3 halved-requires-3 returns)
+charges-of-spec =
+    tie.close (tie.spec mul-halved halved-requires mul-halved-2 halved-requires-2 mul-halved-3 halved-requires-3
+    returns)

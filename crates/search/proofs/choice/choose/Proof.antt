@@ -1,0 +1,247 @@
+-- `search::choice::choose` meets its contract, by where it looks. Assumes nothing.
+use borrow.Author.Needs.{needs}
+use native.Mathlib.Omega.{arith}
+use native.Mathlib.Numerals.{add-one}
+use native.Mathlib.Nat.{div-le-self}
+use mathlib.Core.Path.{_≡_, sym, ap, _∙_, subst}
+use Prim.Native.Nat.{ℕ, suc, _+_, _-_, _*_, _/_, _<_}
+use lib.ListN.{getD}
+use lib.IntN.{pos}
+use Rattle.model.specs.Limits.{mostOutput}
+use Rattle.machine.specs.declared.Terms.{Terms}
+use Rattle.machine.specs.Search.{choiceAt}
+use Rattle.machine.specs.Moves.{dayOf, machine, worth, chosen}
+use Rattle.machine.proofs.Choices.{choice-chosen}
+use Rattle.cells.specs.Picks.{pickOf}
+use Rattle.cells.specs.Table.{entry, lockOf}
+use Rattle.layers.specs.Saved.{RowAt, SavedAt}
+use Rattle.layers.proofs.Slots.{slot-room}
+use Rattle.rows.proofs.Ends.{sized-at}
+use Rattle.search.proofs.Walked.{lock-small}
+use Rattle.search.proofs.Locks.{slot-at}
+use Rattle.search.proofs.choice.choose.Statement.{statement}
+use Rattle.search.proofs.choice.choose.Tie as tie
+
+-- the call, seen from after the end of the lock is known
+abbrev start : tie.After-end-of → tie.Start
+start c = c .before .before .before .before .before .before .before
+
+abbrev day : tie.After-end-of → ℕ → Terms
+day c = dayOf (start c .args .margins .now) (start c .args .orders .now) (start c .args .charges)
+
+module _ (c : tie.After-end-of) where
+  after : c .before .before .before .before .before .next .result .0 ≡ suc (start c .args .k .0)
+  after = c .before .before .before .before .before .next .ensures ∙ add-one (start c .args .k .0)
+
+  -- the entry after the hour
+  entered : c .before .before .value-at .result .0
+      ≡ entry (start c .args .u) (worth (start c .args .u) (day c) (suc (start c .args .k .0)))
+  entered =
+      let s = start c in
+      c .before .before .value-at .ensures ∙ ap (λ (n : ℕ). getD (s .args .entries .now) n (pos 0)) after
+      ∙ s .pre .1 .1 .1 .0 .0 .at (suc (s .args .k .0)) (omega arith) (omega (arith, s .pre .1 .1 .0 .0))
+
+  -- a choice by the terms that were fetched is that of the machine
+  told : pickOf (chosen (start c .args .u) (c .before .terms-at .result)
+      (worth (start c .args .u) (day c) (suc (start c .args .k .0))) (start c .args .s))
+      ≡ pickOf (choiceAt (machine (start c .args .u) (day c)) (start c .args .k .0) (start c .args .s))
+  told =
+      let a = start c .args in
+      ap (λ (t : Terms). pickOf (chosen (a .u) t (worth (a .u) (day c) (suc (a .k .0))) (a .s)))
+      (c .before .terms-at .ensures)
+      ∙ ap pickOf (sym (choice-chosen (a .u) (day c) (a .k .0) (a .s)))
+
+  -- the kept row after the hour
+  row : c .before .before .before .before .before .next .result .0 < c .end-of .result .0
+      → RowAt (start c .args .u) (worth (start c .args .u) (day c) (suc (start c .args .k .0)))
+      (lockOf (start c .args .s) - 1) ((c .end-of .result .0
+      - c .before .before .before .before .before .next .result .0 - 1) * mostOutput)
+      (start c .args .kept .now)
+  row h =
+      let s = start c in
+      let a = s .args in
+      let k = suc (a .k .0) in
+      let j = lockOf (a .s) - 1 in
+      let b = c .end-of .ensures in
+      let until = s .pre .1 .1 .1 .1 .1 (omega (arith, after, b)) in
+      subst (λ (n : ℕ). RowAt (a .u) (worth (a .u) (day c) k) j (n * mostOutput) (a .kept .now))
+      (omega (arith, until, after, b))
+      (s .pre .1 .1 .1 .1 .0 .at k j (omega arith) (omega (arith, until, after, b)) until)
+
+next-requires : tie.Need-next-requires
+next-requires c κs = search needs
+
+cast-value-at : tie.Need-cast-value-at
+cast-value-at c = search needs
+
+value-at-requires : tie.Need-value-at-requires
+value-at-requires c κs = search needs
+
+terms-at-requires : tie.Need-terms-at-requires
+terms-at-requires c κs = search needs
+
+end-of-requires : tie.Need-end-of-requires
+end-of-requires c κs = search needs
+
+sub-at : tie.Need-sub-at
+sub-at c = search needs
+
+sub-at-2 : tie.Need-sub-at-2
+sub-at-2 c = search needs
+
+cast-at : tie.Need-cast-at
+cast-at c = search needs
+
+mul-from-row : tie.Need-mul-from-row
+mul-from-row c = search needs
+
+from-row-requires : tie.Need-from-row-requires
+from-row-requires c κs =
+    let v = c .before .before .before .before .before .before in
+    let s = start v in
+    let f = s .pre .0 in
+    let q = s .pre .1 .1 in
+    let a = after v in
+    let b = v .end-of .ensures in
+    let t = c .before .before .before .if1 .taken in (
+      f,
+      (
+        rw (v .before .terms-at .ensures) (s .pre .1 .0 .fair _),
+        (
+          (
+            q .0 .2,
+            omega (arith, a, b, t),
+            omega (
+              arith,
+              a,
+              b,
+              t,
+              lock-small (s .args .u) (s .args .s) (q .0 .2),
+              q .1 .1 .0 .long,
+              f .capacity-le,
+              f .minimum-pos,
+            ),
+          ),
+          (_, sized-at (s .args .u) (day v) f (s .pre .1 .0 .fair) _, row v t, entered v),
+        ),
+      ),
+    )
+
+returns : tie.Need-returns
+returns c =
+    let v = c .before .before .before .before .before .before .before in
+    let s = start v in
+    c .from-row .ensures _ (sized-at (s .args .u) (day v) (s .pre .0) (s .pre .1 .0 .fair) _)
+    (row v (c .before .before .before .before .if1 .taken))
+    (entered v)
+    ∙ told v
+
+rem-if3 : tie.Need-rem-if3
+rem-if3 c =
+    let s = c .before .before .before .before .before .before .before .before .before .before .before .before .before
+    .before .before in
+    omega (arith, s .pre .1 .1 .0 .1 .stride-pos)
+
+div-slot : tie.Need-div-slot
+div-slot c =
+    let s = c .before .before .before .before .before .before .before .before .before .before .before .before .before
+    .before .before .before .before .before in
+    omega (arith, s .pre .1 .1 .0 .1 .stride-pos)
+
+cast-slot : tie.Need-cast-slot
+cast-slot c =
+    let v = c .before .before .before .before .before .before .before .before .before .before .before in
+    let s = start v in
+    omega (
+      arith,
+      div-le-self (v .before .before .before .before .before .next .result .0) (s .args .l .0),
+      after v,
+      s .pre .1 .1 .0 .0,
+      s .pre .0 .hours-le,
+    )
+
+mul-from-slot : tie.Need-mul-from-slot
+mul-from-slot c =
+    let next = c .before .before .before .before .before .before .before .before .before .before .before .before .before
+    .before .before .before .next in
+    let if2 = c .before .before .before .before .before .if2 in
+    let s = c .before .before .before .before .before .before .before .before .before .before .before .before .before
+    .before .before .before .before .before in
+    let a = s .args in
+    omega (
+      arith,
+      slot-room (a .u) (a .l .0) (a .n) (s .pre .1 .1 .0 .1) (next .result .0)
+          (c .before .before .if3 .taken) (if2 .taken),
+    )
+
+from-slot-requires : tie.Need-from-slot-requires
+from-slot-requires c κs =
+    let if2 = c .before .before .before .before .before .if2 in
+    let if1 = c .before .before .before .before .before .before .before .before .if1 in
+    let n = c .before .before .before .before .before .before .before .before .before .before .before .before .before
+    .before .before .before .next .result .0 in
+    let v = c .before .before .before .before .before .before .before .before .before .before .before in
+    let s = start v in
+    let a = s .args in
+    let q = s .pre .1 .1 in
+    let room = slot-room (a .u) (a .l .0) (a .n) (q .0 .1) n (c .before .before .if3 .taken) (if2 .taken) in (
+      s .pre .0,
+      (
+        rw (v .before .terms-at .ensures) (s .pre .1 .0 .fair _),
+        (
+          (
+            q .0 .2,
+            omega (arith, after v, v .end-of .ensures, if1 .left, if2 .taken),
+            omega (arith, room, q .1 .0 .1 .room, q .0 .1 .width),
+          ),
+          (
+            worth (a .u) (day v) (suc (a .k .0)),
+            sized-at (a .u) (day v) (s .pre .0) (s .pre .1 .0 .fair) _,
+            subst (λ (m : ℕ). SavedAt (a .u) (worth (a .u) (day v) m) (n / a .l .0 * a .n) (a .work .now)) (after v)
+                (slot-at (a .u) (day v) (a .l .0) (a .n) n (c .before .before .if3 .taken) (if2 .taken) (q .1 .0 .1)),
+            entered v,
+          ),
+        ),
+      ),
+    )
+
+returns-2 : tie.Need-returns-2
+returns-2 c =
+    let if2 = c .before .before .before .before .before .before .if2 in
+    let n = c .before .before .before .before .before .before .before .before .before .before .before .before .before
+    .before .before .before .before .next .result .0 in
+    let v = c .before .before .before .before .before .before .before .before .before .before .before .before in
+    let s = start v in
+    let a = s .args in
+    let saved = slot-at (a .u) (day v) (a .l .0) (a .n) n (c .before .before .before .if3 .taken) (if2 .taken)
+    (s .pre .1 .1 .1 .0 .1) in
+    c .from-slot .ensures _ (sized-at (a .u) (day v) (s .pre .0) (s .pre .1 .0 .fair) _)
+    (subst (λ (m : ℕ). SavedAt (a .u) (worth (a .u) (day v) m) (n / a .l .0 * a .n) (a .work .now)) (after v) saved)
+    (entered v)
+    ∙ told v
+
+from-again-requires : tie.Need-from-again-requires
+from-again-requires c κs =
+    let v = c .before .before .before .before .before .before in
+    let s = start v in
+    let q = s .pre .1 .1 in (
+      s .pre .0,
+      (
+        s .pre .1 .0,
+        (
+          (rw (v .before .terms-at .ensures) (s .pre .1 .0 .fair _), q .0 .2, q .0 .0, q .0 .1),
+          ((omega (arith, after v, v .end-of .ensures, c .before .before .before .if1 .left), entered v), q .1 .0),
+        ),
+      ),
+    )
+
+returns-3 : tie.Need-returns-3
+returns-3 c =
+    let v = c .before .before .before .before .before .before .before in
+    c .from-again .ensures ∙ told v
+
+pub choose-spec : {M : Type 1} → statement M
+choose-spec =
+    tie.close (tie.spec next-requires cast-value-at value-at-requires terms-at-requires end-of-requires sub-at sub-at-2
+    cast-at mul-from-row from-row-requires returns rem-if3 div-slot cast-slot mul-from-slot from-slot-requires returns-2
+    from-again-requires returns-3)

@@ -1,0 +1,159 @@
+// The choice of an hour, from what the states after it are worth: from the layer's slot, from a kept row of the lock,
+// or from the layer made again. The definitions are those of machine's specs/Moves, cells' specs/Table and layers'
+// specs/Saved.
+use crate::lock::KEPT;
+use cells::ENTRIES;
+use cells::Pick;
+use cells::ROW;
+use cells::SIDE;
+use machine::Charges;
+use machine::State;
+use machine::Terms;
+use machine::Unit;
+use model::HalfMills;
+use model::Hour;
+ghost use mathlib.Core.Path.{_≡_};
+ghost use Prim.Native.Nat.{suc, _+_, _-_, _≤_, _<_};
+ghost use lib.ListN.{length};
+ghost use Rattle.machine.specs.Search.{choiceAt};
+ghost use Rattle.machine.specs.Moves.{dayOf, machine, worth, chosen, Worths};
+ghost use Rattle.machine.specs.Fit.{Fit, Fair};
+ghost use Rattle.machine.specs.Proper.{Proper};
+ghost use Rattle.cells.specs.Picks.{pickOf};
+ghost use Rattle.cells.specs.Table.{Sized, Ahead, Entries, Day, entry, lockOf, cellsOf, sideLength};
+ghost use Rattle.layers.specs.Saved.{RowAt, SavedAt, Slotted, Saved, Locked, lockEnd};
+
+// From the layer at `off`, where no lock is looked at.
+pub fn from_slot(u: Unit, t: Terms, s: State, off: usize, work: &[i64], e: HalfMills) -> Pick
+    requires { ⌜ Fit u ⌝ }
+    requires { ⌜ Fair t ⌝ }
+    requires { ⌜ (Proper u s) × (lockOf s ≤ 1) × (off + (cellsOf u + sideLength) ≤ length (now work)) ⌝ }
+    requires { ⌜ ((w : Worths) × Sized w × SavedAt u w off (now work) × (e .0 ≡ entry u w)) ⌝ }
+    ensures { λ r. ⌜ ((w : Worths) → Sized w → SavedAt u w off (now (work .entry)) → e .0 ≡ entry u w
+        → r ≡ pickOf (chosen u t w s)) ⌝ }
+{
+    let mid = off + rows::cells_of(u);
+    let end = mid + SIDE;
+    choices::choose(u, t, s, &work[off..mid], &work[mid..end], e)
+}
+
+// From the row at `off`, inside a lock.
+pub fn from_row(u: Unit, t: Terms, s: State, off: usize, kept: &[i64], e: HalfMills) -> Pick
+    requires { ⌜ Fit u ⌝ }
+    requires { ⌜ Fair t ⌝ }
+    requires { ⌜ (Proper u s) × (1 < lockOf s) × (off + cellsOf u ≤ length (now kept)) ⌝ }
+    requires { ⌜ ((w : Worths) × Sized w × RowAt u w (lockOf s - 1) off (now kept) × (e .0 ≡ entry u w)) ⌝ }
+    ensures { λ r. ⌜ ((w : Worths) → Sized w → RowAt u w (lockOf s - 1) off (now (kept .entry)) → e .0 ≡ entry u w
+        → r ≡ pickOf (chosen u t w s)) ⌝ }
+{
+    let side = [0i64; SIDE];
+    let end = off + rows::cells_of(u);
+    choices::choose(u, t, s, &kept[off..end], &side, e)
+}
+
+// From a row and a side.
+pub fn from_layer(
+    u: Unit,
+    t: Terms,
+    s: State,
+    row: &[i64; ROW],
+    side: &[i64; SIDE],
+    e: HalfMills,
+) -> Pick
+    requires { ⌜ Fit u ⌝ }
+    requires { ⌜ Fair t ⌝ }
+    requires { ⌜ Proper u s ⌝ }
+    requires { ⌜ ((w : Worths) × Ahead u w (lockOf s) (now row) (now side) × (e .0 ≡ entry u w)) ⌝ }
+    ensures { λ r. ⌜ ((w : Worths) → Ahead u w (lockOf s) (now (row .entry)) (now (side .entry)) → e .0 ≡ entry u w
+        → r ≡ pickOf (chosen u t w s)) ⌝ }
+{
+    choices::choose(u, t, s, row, side, e)
+}
+
+// From the layer after hour k, made again, where no lock goes beyond it.
+pub fn from_again(
+    u: Unit,
+    charges: Charges,
+    margins: &[i64],
+    orders: &[u8],
+    t: Terms,
+    k: Hour,
+    s: State,
+    l: Hour,
+    n: usize,
+    entries: &[i64; ENTRIES],
+    work: &[i64],
+    e: HalfMills,
+) -> Pick
+    requires { ⌜ Fit u ⌝ }
+    requires { ⌜ Day u (now margins) (now orders) charges ⌝ }
+    requires { ⌜ (Fair t) × (Proper u s) × (k .0 < u .hours .0) × (Slotted u (l .0) n) ⌝ }
+    requires { ⌜ (lockEnd u (suc (k .0)) (lockOf s - 1) ≤ suc (k .0))
+        × (e .0 ≡ entry u (worth u (dayOf (now margins) (now orders) charges) (suc (k .0)))) ⌝ }
+    requires { ⌜ (Entries u (dayOf (now margins) (now orders) charges) 0 (now entries))
+        × (Saved u (dayOf (now margins) (now orders) charges) (l .0) n 0 (now work)) ⌝ }
+    ensures { λ r. ⌜ r ≡ pickOf (chosen u t (worth u (dayOf (now (margins .entry)) (now (orders .entry)) charges)
+        (suc (k .0))) s) ⌝ }
+{
+    let mut row = [0i64; ROW];
+    let mut side = [0i64; SIDE];
+    let after = k.next();
+    layers::layer_at(
+        u,
+        charges,
+        margins,
+        orders,
+        after,
+        l,
+        n,
+        entries,
+        work,
+        &mut row,
+        &mut side,
+    );
+    from_layer(u, t, s, &row, &side, e)
+}
+
+// The choice of hour k in any state; the kept rows are those of a lock that ends at `until`, which is that of the state
+// if it has one.
+pub fn choose(
+    u: Unit,
+    charges: Charges,
+    margins: &[i64],
+    orders: &[u8],
+    k: Hour,
+    s: State,
+    until: Hour,
+    l: Hour,
+    n: usize,
+    entries: &[i64; ENTRIES],
+    work: &[i64],
+    kept: &[i64; KEPT],
+) -> Pick
+    requires { ⌜ Fit u ⌝ }
+    requires { ⌜ Day u (now margins) (now orders) charges ⌝ }
+    requires { ⌜ (k .0 < u .hours .0) × (Slotted u (l .0) n) × (Proper u s) ⌝ }
+    requires { ⌜ (Entries u (dayOf (now margins) (now orders) charges) 0 (now entries))
+        × (Saved u (dayOf (now margins) (now orders) charges) (l .0) n 0 (now work)) ⌝ }
+    requires { ⌜ (Locked u (dayOf (now margins) (now orders) charges) (suc (k .0)) (until .0) (now kept))
+        × (suc (k .0) < lockEnd u (suc (k .0)) (lockOf s - 1)
+        → until .0 ≡ lockEnd u (suc (k .0)) (lockOf s - 1)) ⌝ }
+    ensures { λ r. ⌜ r ≡ pickOf (choiceAt (machine u (dayOf (now (margins .entry)) (now (orders .entry)) charges))
+        (k .0) s) ⌝ }
+{
+    let after = k.next();
+    let e = money::value_at(entries, after.0 as usize);
+    let t = cells::terms_at(margins, orders, charges, k);
+    let b = crate::lock::end_of(u, k, s);
+    if after.0 < b.0 {
+        let at = (b.0 - after.0 - 1) as usize;
+        return from_row(u, t, s, at * ROW, kept, e);
+    }
+    if after.0 < u.hours.0 {
+        if after.0 % l.0 == 0 {
+            let slot = (after.0 / l.0) as usize;
+            return from_slot(u, t, s, slot * n, work, e);
+        }
+    }
+    from_again(u, charges, margins, orders, t, k, s, l, n, entries, work, e)
+}
