@@ -19,12 +19,13 @@ use Rattle.hours.proofs.MarkLaws.{marks-at}
 use Rattle.profit.specs.Worth.{Worth, Hourly, chargeOf}
 
 -- what the price of hour k + 1 leaves above F
-pub over-of : (c : Case) (k : ℕ) {a b m : ℤ} → (a ≡ pos (getD (c .prices) k 0)) × (getD (c .prices) k 0 ≤ 65535)
-    → b ≡ pos (F c) → F c ≤ 1000000 → m ≡ a -ℤ b → Worth (pos (price c (k + 1)) -ℤ pos (F c)) 1000000 m
-over-of c k {a} {b} {m} (e, f) g h d =
+pub over-of : (c : Case) (k : ℕ) {m : ℤ} → getD (c .prices) k 0 < 65536 → F c ≤ 1000000
+    → m ≡ pos (getD (c .prices) k 0) -ℤ pos (F c) → Worth (pos (price c (k + 1)) -ℤ pos (F c)) 1000000 m
+over-of c k {m} f h d =
     let entry : getD (c .prices) k 0 ≡ price c (k + 1) =
     ap (λ i. getD (c .prices) i 0) (omega arith) ∙ sym (hourly-at (c .prices) (k + 1) (omega arith)) in
-    let is : m ≡ pos (price c (k + 1)) -ℤ pos (F c) = d ∙ rw (e, g, entry) refl in
+    let is : m ≡ pos (price c (k + 1)) -ℤ pos (F c) =
+    d ∙ ap (λ n. pos n -ℤ pos (F c)) entry in
     record { is = is; most = omega (arith, ap natAbs is, abs-apart (price c (k + 1)) (F c) 1000000 (omega arith) h) }
 
 module _ {c : Case} {l : List ℕ} where

@@ -7,45 +7,29 @@ use hours::marks::output_at;
 use model::Case;
 use model::HalfMills;
 use model::Hour;
-use model::Mills;
 use model::Output;
 use money::difference;
+use money::multiple;
 use money::sum;
 ghost use mathlib.Core.Path.{_≡_};
 ghost use mathlib.Core.List.{List};
-ghost use Prim.Native.Nat.{ℕ, _+_, _*_, _≤_, _<_, _^_};
-ghost use lib.IntN.{pos, natAbs, _-ℤ_, _*ℤ_};
+ghost use Prim.Native.Nat.{ℕ, _≤_, _^_};
+ghost use lib.IntN.{pos, natAbs, _-ℤ_};
 ghost use Rattle.model.specs.Profit.{profitAt, profitOf};
 ghost use Rattle.profit.specs.Worth.{Worth, Priced, Hourly, chargeOf};
 
-// An amount as a case has it.
-fn mills(n: u32) -> Mills
-    ensures { λ r. ⌜ r .0 ≡ pos n ⌝ }
+// An amount in mills per megawatt-hour is as much per half-megawatt-hour in half-mills; so are doubled mills.
+fn halved(mills: u32) -> HalfMills
+    ensures { λ r. ⌜ r .0 ≡ pos mills ⌝ }
 {
-    Mills(n as i64)
+    HalfMills(mills as i64)
 }
 
-// A price as a case has it.
-fn price_of(n: u16) -> Mills
-    ensures { λ r. ⌜ (r .0 ≡ pos n) × (n ≤ 65535) ⌝ }
+// What a half-megawatt-hour earns at a price, the cost of the energy taken off.
+fn margin(price: u16, cost: u32) -> HalfMills
+    ensures { λ r. ⌜ r .0 ≡ pos price -ℤ pos cost ⌝ }
 {
-    mills(n as u32)
-}
-
-// What a price leaves above a cost.
-fn margin(price: Mills, cost: Mills) -> Mills
-    requires { ⌜ natAbs (price .0) + natAbs (cost .0) < 2 ^ 63 ⌝ }
-    ensures { λ r. ⌜ r .0 ≡ price .0 -ℤ cost .0 ⌝ }
-{
-    Mills(price.0 - cost.0)
-}
-
-// n halves of an amount: half-mills for n half-megawatt-hours at a price per megawatt-hour.
-fn halves(amount: Mills, n: usize) -> HalfMills
-    requires { ⌜ (natAbs (amount .0) ≤ 2 ^ 30) × (n ≤ 2 ^ 20) ⌝ }
-    ensures { λ r. ⌜ r .0 ≡ amount .0 *ℤ pos n ⌝ }
-{
-    HalfMills(amount.0 * (n as i64))
+    difference(halved(price as u32), halved(cost))
 }
 
 // What an hour costs beside F, by its marks.
@@ -60,14 +44,14 @@ fn charge_of(case: Case, m: Marks) -> HalfMills
     HalfMills((fixed + (startcost + stopcost)) as i64)
 }
 
-// The profit of an hour from output q to p, with what its price leaves above F.
-fn hour_profit(case: Case, over: Mills, q: Output, p: Output) -> HalfMills
+// The profit of an hour from output q to p, with what a half-megawatt-hour earns.
+fn hour_profit(case: Case, over: HalfMills, q: Output, p: Output) -> HalfMills
     requires { ⌜ Priced case ⌝ }
     requires { ⌜ natAbs (over .0) ≤ 1000000 ⌝ }
     ensures { λ r. ⌜ ((l : List ℕ) (k : ℕ) → Hourly case l k (over .0) (q .0) (p .0)
         → Worth (profitAt case l k) (2 ^ 38) (r .0)) ⌝ }
 {
-    let gain = halves(over, (p.0 as usize) + (q.0 as usize));
+    let gain = multiple(over, (p.0 as usize) + (q.0 as usize));
     difference(gain, charge_of(case, marks_of(q, p)))
 }
 
@@ -77,13 +61,13 @@ pub fn profit_of(case: Case, list: &[u16]) -> HalfMills
     ensures { λ r. ⌜ Worth (profitOf case (now (list .entry))) (2 ^ 44) (r .0) ⌝ }
 {
     let prices = case.prices;
-    let cost = mills(case.variable);
+    let variable = case.variable;
     let mut total = HalfMills(0);
     let mut was = case.initial;
     let hours = case.hours;
     let mut k = 0;
     while k < hours {
-        let over = margin(price_of(prices[k]), cost);
+        let over = margin(prices[k], variable);
         k += 1;
         let is = output_at(case, list, Hour(k as u16));
         total = sum(total, hour_profit(case, over, was, is));

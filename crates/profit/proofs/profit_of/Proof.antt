@@ -2,8 +2,11 @@
 use borrow.Author.Needs.{needs}
 use native.Mathlib.Omega.{arith}
 use mathlib.Core.Path.{sym, ap, _∙_}
-use Prim.Native.Nat.{_+_, _-_, _^_}
-use lib.IntN.{pos, natAbs, _-ℤ_}
+use Prim.Native.Nat.{ℕ, _+_, _-_, _^_}
+use lib.IntN.{pos, _-ℤ_}
+use lib.ListN.{getD}
+use mir.Syntax.{w16}
+use mir.Val.{Fits}
 use Rattle.model.specs.Symbols.{F, price}
 use Rattle.model.specs.Marks.{p}
 use Rattle.model.specs.Profit.{profitAt}
@@ -14,27 +17,28 @@ use Rattle.profit.proofs.profit_of.Statement.{statement}
 use Rattle.profit.proofs.profit_of.Tie as tie
 
 abbrev Inv-loop : tie.InvT-loop
-Inv-loop case list prices cost total₀ was₀ hours k₀ total was k = Earned case list k (total .0) (was .0)
+Inv-loop case list prices variable total₀ was₀ hours k₀ total was k = Earned case list k (total .0) (was .0)
 
 abbrev μ-loop : tie.MeasureT-loop
-μ-loop case list prices cost total₀ was₀ hours k₀ total was k = hours - k
+μ-loop case list prices variable total₀ was₀ hours k₀ total was k = hours - k
 
 abbrev start : tie.In-loop Inv-loop μ-loop → tie.Start Inv-loop μ-loop
-start c = c .before .before .before .before .before .before
+start c = c .before .before .before .before .before
 
 abbrev in-hour : tie.After-output-at Inv-loop μ-loop → tie.In-loop Inv-loop μ-loop
-in-hour c = c .before .before .before
+in-hour c = c .before .before
+
+priced : (s : tie.Start Inv-loop μ-loop) (k : ℕ) → Fits w16 (getD (s .args .case .prices) k 0)
+priced s k = search needs
 
 -- what the price of the hour leaves above F
 over : (c : tie.After-margin Inv-loop μ-loop)
-    → let case = start (c .before .before) .args .case in
-    Worth (pos (price case (c .before .before .before .loop .k + 1)) -ℤ pos (F case)) 1000000 (c .margin .result .0)
+    → let case = start (c .before) .args .case in
+    Worth (pos (price case (c .before .before .loop .k + 1)) -ℤ pos (F case)) 1000000 (c .margin .result .0)
 over c =
-    let s = start (c .before .before) in
-    let opened = c .before .before .before .before in
-    let cost = opened .before .mills .ensures in
-    over-of (s .args .case) (c .before .before .before .loop .k) (c .before .price-of .ensures) cost (search needs)
-    (c .margin .ensures)
+    let s = start (c .before) in
+    let k = c .before .before .loop .k in
+    over-of (s .args .case) k (priced s k .fits) (search needs) (c .margin .ensures)
 
 -- the hour is the next one
 hour : (c : tie.After-output-at Inv-loop μ-loop)
@@ -61,31 +65,23 @@ worth c =
     let d = in-hour (c .before) in
     c .hour-profit .ensures (start d .args .list .now) (d .before .loop .k + 1) (hour (c .before))
 
-mills-requires : tie.Need-mills-requires Inv-loop μ-loop
-mills-requires c κs = search needs
-
 loop-holds : tie.Need-loop-holds Inv-loop μ-loop
-loop-holds c = let a = c .before .before .before .before .args in earned-start (sym (p-zero (a .case) (a .list .now)))
+loop-holds c = let a = c .before .before .before .args in earned-start (sym (p-zero (a .case) (a .list .now)))
 
-mul-price-of : tie.Need-mul-price-of Inv-loop μ-loop
-mul-price-of c = search needs
+mul-margin : tie.Need-mul-margin Inv-loop μ-loop
+mul-margin c = search needs
 
-array-read-price-of : tie.Need-array-read-price-of Inv-loop μ-loop
-array-read-price-of c = search needs
-
-price-of-requires : tie.Need-price-of-requires Inv-loop μ-loop
-price-of-requires c κs = search needs
+array-read-margin : tie.Need-array-read-margin Inv-loop μ-loop
+array-read-margin c = search needs
 
 margin-requires : tie.Need-margin-requires Inv-loop μ-loop
-margin-requires c κs =
-    let cost = c .before .before .before .before .mills .ensures in
-    omega (arith, ap natAbs (c .price-of .ensures .0), c .price-of .ensures .1, ap natAbs cost)
+margin-requires c κs = search needs
 
 add-k : tie.Need-add-k Inv-loop μ-loop
 add-k c = search needs
 
-cast-t16 : tie.Need-cast-t16 Inv-loop μ-loop
-cast-t16 c = search needs
+cast-t15 : tie.Need-cast-t15 Inv-loop μ-loop
+cast-t15 c = search needs
 
 output-at-requires : tie.Need-output-at-requires Inv-loop μ-loop
 output-at-requires c κs = search needs
@@ -122,14 +118,12 @@ profit-of-spec =
     (tie.spec
     Inv-loop
     μ-loop
-    mills-requires
     loop-holds
-    mul-price-of
-    array-read-price-of
-    price-of-requires
+    mul-margin
+    array-read-margin
     margin-requires
     add-k
-    cast-t16
+    cast-t15
     output-at-requires
     hour-profit-requires
     sum-requires
