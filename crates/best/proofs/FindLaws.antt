@@ -17,7 +17,6 @@ use Rattle.model.specs.Refusals.{refusalOf}
 use Rattle.model.specs.Answers.{cleared, planned}
 use Rattle.machine.specs.Coded.{missing, coded, Bounded, amount}
 use Rattle.machine.specs.Search.{maybe}
-use Rattle.machine.specs.Moves.{worth}
 use Rattle.machine.specs.Fit.{Fit, Fair}
 use Rattle.machine.specs.Cases.{unitOf, termsOf, openingOf}
 use Rattle.machine.proofs.CodedLaws.{low}

@@ -13,7 +13,6 @@ use machine::State;
 use machine::Unit;
 use model::Case;
 use model::HOURS;
-use model::HalfMills;
 use model::Hour;
 use model::Output;
 use model::STAGES;
@@ -33,20 +32,6 @@ fn stages(outputs: [Output; STAGES], n: usize) -> [Output; STAGES]
     first
 }
 
-// An amount in mills per megawatt-hour is as much per half-megawatt-hour in half-mills; so are doubled mills.
-fn halved(mills: u32) -> HalfMills
-    ensures { λ r. ⌜ r .0 ≡ pos mills ⌝ }
-{
-    HalfMills(mills as i64)
-}
-
-// What a half-megawatt-hour earns at a price, F taken off.
-fn margin(price: u16, variable: u32) -> HalfMills
-    ensures { λ r. ⌜ r .0 ≡ pos price -ℤ pos variable ⌝ }
-{
-    money::difference(halved(price as u32), halved(variable))
-}
-
 // The margins of the first n hours in place of zeros.
 pub(crate) fn margins(prices: [u16; HOURS], variable: u32, n: usize, to: &mut [i64; HOURS])
     requires { ⌜ (n ≤ mostHours) × (now to ≡ replicate mostHours (pos 0)) ⌝ }
@@ -56,7 +41,7 @@ pub(crate) fn margins(prices: [u16; HOURS], variable: u32, n: usize, to: &mut [i
 {
     let mut k = 0;
     while k < n {
-        money::store(to, k, margin(prices[k], variable));
+        money::store(to, k, money::margin(prices[k], variable));
         k += 1;
     }
 }
@@ -80,9 +65,9 @@ pub(crate) fn charges_of(case: Case) -> Charges
     requires { ⌜ refusalOf case ≡ 0 ⌝ }
     ensures { λ r. ⌜ r ≡ chargesOf case ⌝ }
 {
-    let holds = halved(2 * case.fixed);
-    let starts = halved(2 * case.startcost);
-    let stops = halved(2 * case.stopcost);
+    let holds = money::halved(2 * case.fixed);
+    let starts = money::halved(2 * case.startcost);
+    let stops = money::halved(2 * case.stopcost);
     Charges {
         holds,
         starts,

@@ -9,28 +9,14 @@ use model::HalfMills;
 use model::Hour;
 use model::Output;
 use money::difference;
+use money::margin;
 use money::multiple;
 use money::sum;
-ghost use mathlib.Core.Path.{_≡_};
 ghost use mathlib.Core.List.{List};
 ghost use Prim.Native.Nat.{ℕ, _≤_, _^_};
-ghost use lib.IntN.{pos, natAbs, _-ℤ_};
+ghost use lib.IntN.{pos, natAbs};
 ghost use Rattle.model.specs.Profit.{profitAt, profitOf};
 ghost use Rattle.profit.specs.Worth.{Worth, Priced, Hourly, chargeOf};
-
-// An amount in mills per megawatt-hour is as much per half-megawatt-hour in half-mills; so are doubled mills.
-fn halved(mills: u32) -> HalfMills
-    ensures { λ r. ⌜ r .0 ≡ pos mills ⌝ }
-{
-    HalfMills(mills as i64)
-}
-
-// What a half-megawatt-hour earns at a price, the cost of the energy taken off.
-fn margin(price: u16, cost: u32) -> HalfMills
-    ensures { λ r. ⌜ r .0 ≡ pos price -ℤ pos cost ⌝ }
-{
-    difference(halved(price as u32), halved(cost))
-}
 
 // What an hour costs beside F, by its marks.
 fn charge_of(case: Case, m: Marks) -> HalfMills

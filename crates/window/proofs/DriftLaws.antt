@@ -1,19 +1,17 @@
 -- A worth and the number that stands for it once a line was added with no test for none: none is any number up to
 -- -2^61, an amount is itself. The largest of such numbers stands for the best worth, and settled with a line it is the
 -- code again. Assumes nothing.
-use mathlib.Core.Path.{_≡_, refl, sym, subst}
+use mathlib.Core.Path.{_≡_, refl}
 use mathlib.Core.Option.{Option, none, some}
 use mathlib.Core.Bool.{Bool, true, false, cond}
 use Prim.Native.Nat.{ℕ, zero, suc, _+_, _≤_, _<_, _^_}
 use native.Mathlib.Omega.{arith}
-use lib.Dec.{T}
 use lib.IntN.{ℤ, natAbs, _+ℤ_}
-use lib.Signed.{ltZ, leZ, _≤ℤ_, _<ℤ_}
+use lib.Signed.{ltZ, _≤ℤ_, _<ℤ_}
 use Rattle.laws.specs.Range.{larger, over}
 use Rattle.laws.proofs.RangeLaws.{larger-least, larger-of-ge, larger-of-le}
 use Rattle.laws.proofs.Signed.{linear, up, down, parts-+}
 use Rattle.laws.proofs.Magnitude.{abs-parts, abs-+}
-use Rattle.laws.proofs.Tests.{T→true}
 use Rattle.machine.specs.Search.{ahead, add, Choice}
 use Rattle.machine.specs.Span.{pick, lone, span}
 use Rattle.machine.specs.Coded.{missing, coded}
@@ -69,12 +67,6 @@ drifted-span f v a b (suc m) h =
 
 -- the code again
 pub drifted-settled : {x : Option ℤ} {z : ℤ} (g : ℤ) → Drifted x z → settled g z ≡ coded (add g x)
-unfolding settled
-drifted-settled g (lost z p) = simp (T→true (leZ z half) (p .le)) refl
-drifted-settled g (kept v h) = simp (go (leZ v half) refl) refl
-  where
-    go : (t : Bool) → leZ v half ≡ t → t ≡ false
-    go false e = refl
-    go true e =
-        let low : v ≤ℤ half = record { le = subst T (sym e) tt } in
-        absurd (omega (linear, low, above v h))
+unfolding settled up down
+drifted-settled g (lost z p) = let low : ltZ half z ≡ false = omega (linear, p) in simp low refl
+drifted-settled g (kept v h) = let high : ltZ half v ≡ true = omega (linear, abs-parts v) in simp high refl

@@ -1,5 +1,4 @@
 -- `layers::layer_at` meets its contract, by what its parts ensure. Assumes nothing.
-use borrow.Author.Needs.{needs}
 use Rattle.layers.proofs.layer_at.Statement.{statement}
 use Rattle.layers.proofs.layer_at.Tie as tie
 

@@ -3,7 +3,7 @@ use borrow.Author.Needs.{needs}
 use native.Mathlib.Omega.{arith}
 use native.Mathlib.Numerals.{add-one}
 use mathlib.Core.Path.{_≡_, _∙_}
-use Prim.Native.Nat.{suc, _+_}
+use Prim.Native.Nat.{suc}
 use Rattle.machine.specs.Moves.{dayOf, worth}
 use Rattle.cells.specs.Table.{entry}
 use Rattle.rows.proofs.Ends.{sized-at}

@@ -1,10 +1,7 @@
 -- `search::choice::from_slot` meets its contract: the parts of the slot are the row and the side. Assumes nothing.
 use borrow.Author.Needs.{needs}
 use native.Mathlib.Omega.{arith}
-use mathlib.Core.Path.{_≡_, refl}
-use Rattle.machine.specs.Moves.{Worths}
-use Rattle.cells.specs.Table.{Sized, Ahead, lockOf}
-use Rattle.layers.specs.Saved.{SavedAt}
+use mathlib.Core.Path.{refl}
 use Rattle.search.proofs.Locks.{ahead-slot}
 use Rattle.search.proofs.choice.from_slot.Statement.{statement}
 use Rattle.search.proofs.choice.from_slot.Tie as tie

@@ -3,7 +3,7 @@
 use borrow.Author.Needs.{needs}
 use native.Mathlib.Omega.{arith}
 use mathlib.Core.Path.{_≡_, refl}
-use Prim.Native.Nat.{ℕ, suc, _+_, _-_, _≤_, _<_}
+use Prim.Native.Nat.{ℕ, suc, _-_, _≤_, _<_}
 use Rattle.machine.specs.Moves.{dayOf, worth}
 use Rattle.cells.specs.Table.{Row, cellsOf}
 use Rattle.layers.specs.Saved.{Locked, lockEnd}
