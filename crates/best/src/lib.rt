@@ -1,7 +1,7 @@
 // The best day of a case in lent memory: its list in the first outputs, its profit, and the working numbers zeroed; 11
 // exactly where no list keeps every rule. What is answered and left for every input is model's specs/Answers,
-// `scheduleOf`; the best list is `bestDay` of model's specs/Best. A case outside the limits is refused by 2 to 8, memory
-// that is too short by 10, and nothing is changed then.
+// `scheduleOf`; the best list is `bestDay` of model's specs/Best. A case outside the limits is refused by 2 to 8,
+// memory that is too short by 10, and nothing is changed then.
 mod unit;
 mod wipe;
 

@@ -141,9 +141,12 @@ pub extern "C" fn giqapsun_check_1(case: Case, list: &[u16]) -> GiqapsunVerdict
 // and on 10.
 #[no_mangle]
 pub extern "C" fn giqapsun_best_1(case: Case, work: &mut [i64], outputs: &mut [u16]) -> GiqapsunPlan
-    ensures answer { λ r. ⌜ r ≡ planOut ((scheduleOf Accepted case (now (work .entry)) (now (outputs .entry))) .answer) ⌝ }
-    ensures work { λ _. ⌜ now (work .exit) ≡ (scheduleOf Accepted case (now (work .entry)) (now (outputs .entry))) .work ⌝ }
-    ensures outputs { λ _. ⌜ now (outputs .exit) ≡ (scheduleOf Accepted case (now (work .entry)) (now (outputs .entry))) .outputs ⌝ }
+    ensures answer { λ r. ⌜ r
+        ≡ planOut ((scheduleOf Accepted case (now (work .entry)) (now (outputs .entry))) .answer) ⌝ }
+    ensures work { λ _. ⌜ now (work .exit)
+        ≡ (scheduleOf Accepted case (now (work .entry)) (now (outputs .entry))) .work ⌝ }
+    ensures outputs { λ _. ⌜ now (outputs .exit)
+        ≡ (scheduleOf Accepted case (now (work .entry)) (now (outputs .entry))) .outputs ⌝ }
 {
     plan_out(best::schedule(codec::admit(case), work, outputs))
 }

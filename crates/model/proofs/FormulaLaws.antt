@@ -59,12 +59,24 @@ at-most a b = (leb→le a b, le→leb a b)
 
 -- (7): starts less stops are the change of the commitment
 pub balance : (y w v z : ℕ) → T (eqb (y + w) (v + z)) ↔ (pos y -ℤ pos z ≡ pos v -ℤ pos w)
-balance y w v z = (λ t. there (eqb→eq (y + w) (v + z) t), λ h. true→T (eqb (y + w) (v + z)) (eq-eqb (y + w) (v + z) (back h)))
+balance y w v z = (
+  λ t. there (eqb→eq (y + w) (v + z) t),
+  λ h. true→T (eqb (y + w) (v + z)) (eq-eqb (y + w) (v + z) (back h)),
+)
   where
     there : y + w ≡ v + z → pos y -ℤ pos z ≡ pos v -ℤ pos w
     there e =
         parts-eq (pos y -ℤ pos z) (pos v -ℤ pos w)
-        (omega (arith, e, parts-- (pos y) (pos z), parts-- (pos v) (pos w), parts-pos y, parts-pos z, parts-pos v, parts-pos w))
+        (omega (
+          arith,
+          e,
+          parts-- (pos y) (pos z),
+          parts-- (pos v) (pos w),
+          parts-pos y,
+          parts-pos z,
+          parts-pos v,
+          parts-pos w,
+        ))
 
     back : pos y -ℤ pos z ≡ pos v -ℤ pos w → y + w ≡ v + z
     back h = omega (

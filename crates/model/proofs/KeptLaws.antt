@@ -161,7 +161,9 @@ module _ (c : Case) (l : List ℕ) (k : ℕ) where
 
   there5 : T (rule5 c l k) → Kept c l k 5
   unfolding rule5
-  there5 t = kept5 (rw (sym (before-is k)) (ramp (RU c) (high c) (v c l k) (starting c l k) (p c l (before k)) (p c l k) .0 t))
+  there5 t =
+      kept5 (rw (sym (before-is k))
+      (ramp (RU c) (high c) (v c l k) (starting c l k) (p c l (before k)) (p c l k) .0 t))
 
   back5 : Kept c l k 5 → T (rule5 c l k)
   unfolding rule5
@@ -169,11 +171,15 @@ module _ (c : Case) (l : List ℕ) (k : ℕ) where
 
   there6 : T (rule6 c l k) → Kept c l k 6
   unfolding rule6
-  there6 t = kept6 (rw (sym (before-is k)) (ramp (RD c) (high c) (v c l (before k)) (stopsWithin c l (DD c) k) (p c l k) (p c l (before k)) .0 t))
+  there6 t =
+      kept6 (rw (sym (before-is k))
+      (ramp (RD c) (high c) (v c l (before k)) (stopsWithin c l (DD c) k) (p c l k) (p c l (before k)) .0 t))
 
   back6 : Kept c l k 6 → T (rule6 c l k)
   unfolding rule6
-  back6 (kept6 h) = ramp (RD c) (high c) (v c l (before k)) (stopsWithin c l (DD c) k) (p c l k) (p c l (before k)) .1 (rw (before-is k) h)
+  back6 (kept6 h) =
+      ramp (RD c) (high c) (v c l (before k)) (stopsWithin c l (DD c) k) (p c l k) (p c l (before k)) .1
+      (rw (before-is k) h)
 
   there7 : T (rule7 c l k) → Kept c l k 7
   unfolding rule7
@@ -391,17 +397,21 @@ module _ (c : Case) (l : List ℕ) where
       go (no h) (yes q) r s = absurd (b .broken (a .earlier i m q (b .held)))
       go (no h) (no q) (yes r) s =
           let e : k ≡ i = omega arith in
-          absurd (a .broken (subst (λ x. Kept c l x n) (sym e) (b .lower n r (subst (λ x. T (tested x n)) e (a .held)))))
+          let held = subst (λ x. T (tested x n)) e (a .held) in
+          absurd (a .broken (subst (λ x. Kept c l x n) (sym e) (b .lower n r held)))
       go (no h) (no q) (no r) (yes s) =
           let e : i ≡ k = omega arith in
-          absurd (b .broken (subst (λ x. Kept c l x m) (sym e) (a .lower m s (subst (λ x. T (tested x m)) e (b .held)))))
+          let held = subst (λ x. T (tested x m)) e (b .held) in
+          absurd (b .broken (subst (λ x. Kept c l x m) (sym e) (a .lower m s held)))
       go (no h) (no q) (no r) (no s) = (omega arith, omega arith)
 
   breach-of-breaks : (b : Breach) → Breaks c l (b .hour .0) (b .rule) → breach c l ≡ some b
   breach-of-breaks b s = go (breach c l) refl
     where
       go : (x : Option Breach) → breach c l ≡ x → x ≡ some b
-      go none d = absurd (s .broken (kept-at (b .hour .0) (unbroken-of-none c l d (b .hour .0) (s .inside)) (b .rule) (s .held)))
+      go none d =
+          let unbroken = unbroken-of-none c l d (b .hour .0) (s .inside) in
+          absurd (s .broken (kept-at (b .hour .0) unbroken (b .rule) (s .held)))
       go (some a) d =
           let e = breaks-unique (a .hour .0) (a .rule) (b .hour .0) (b .rule) (breaks-of-breach a d) s in
           ap some (same-breach a b (e .0) (e .1))

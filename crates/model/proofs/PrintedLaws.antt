@@ -28,8 +28,8 @@ use Rattle.model.specs.Best.{bestDay}
 use Rattle.model.specs.Layout.{listed}
 use Rattle.model.specs.Refusals.{refusalOf}
 use Rattle.model.specs.Answers.{planned, readOf, scheduleOf}
-use Rattle.model.specs.Printed.{ascii, digits, decimal, field, sign, profitLine, refusedLine, hourLine, hourLines, dayText}
-use Rattle.model.specs.Printed.{readText, printedOf, printingOf}
+use Rattle.model.specs.Printed.{ascii, digits, decimal, field, sign, profitLine, refusedLine, hourLine}
+use Rattle.model.specs.Printed.{hourLines, dayText, readText, printedOf, printingOf}
 use Rattle.model.specs.Promises.{WritesText, WritesNone}
 use Rattle.model.proofs.DecimalLaws.{length-decimal}
 use Rattle.model.proofs.KeepsLaws.{kept-length}

@@ -21,8 +21,10 @@ pub data Step (U : Case) (q : ℕ) : St → St → Type 0 where
   start1 : (d : ℕ) → q ≡ U .minimum .0 → U .mindown .0 ≤ d → U .rises ≡ 1 → Step U q (off d) (run q 1)
   climb : (i : ℕ) → q ≡ stage (U .rise) (suc i) → suc i < U .rises → Step U q (up i) (up (suc i))
   reach : (i : ℕ) → q ≡ U .minimum .0 → suc i ≡ U .rises → Step U q (up i) (run q (suc i))
-  hold : (r u : ℕ) → U .minimum .0 ≤ q → q ≤ U .capacity .0 → q ≤ r + U .rampup .0 → r ≤ q + U .rampdown .0 → Step U q (run r u) (run q (suc u))
-  leave : (r u : ℕ) → q ≡ stage (U .fall) 2 → r ≡ U .minimum .0 → U .minup .0 < u + U .falls → 1 < U .falls → Step U q (run r u) (down 2)
+  hold : (r u : ℕ) → U .minimum .0 ≤ q → q ≤ U .capacity .0 → q ≤ r + U .rampup .0 → r ≤ q + U .rampdown .0
+      → Step U q (run r u) (run q (suc u))
+  leave : (r u : ℕ) → q ≡ stage (U .fall) 2 → r ≡ U .minimum .0 → U .minup .0 < u + U .falls → 1 < U .falls
+      → Step U q (run r u) (down 2)
   leave1 : (r u : ℕ) → q ≡ 0 → r ≡ U .minimum .0 → U .minup .0 ≤ u → U .falls ≡ 1 → Step U q (run r u) (off 1)
   sink : (i : ℕ) → q ≡ stage (U .fall) (suc i) → i < U .falls → Step U q (down i) (down (suc i))
   land : (i : ℕ) → q ≡ 0 → i ≡ U .falls → Step U q (down i) (off 1)

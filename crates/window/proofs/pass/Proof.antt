@@ -62,7 +62,9 @@ suffix-at-requires c κs =
     )
 
 add-taken : tie.Need-add-taken-2 Inv-loop μ-loop
-add-taken c = let h = here (turn c) in omega (arith, within (c .before .before), h .within, h .sized .few, h .sized .up-le)
+add-taken c =
+    let h = here (turn c) in
+    omega (arith, within (c .before .before), h .within, h .sized .few, h .sized .up-le)
 
 taken-requires : tie.Need-taken-requires Inv-loop μ-loop
 taken-requires c κs =
