@@ -126,7 +126,7 @@ extern "C" {
 #define GIQAPSUN_STACK_READ 2048
 #define GIQAPSUN_STACK_WRITE 2048
 #define GIQAPSUN_STACK_CHECK 4096
-#define GIQAPSUN_STACK_BEST 32768
+#define GIQAPSUN_STACK_BEST 49152
 
 /* Bytes of the longest file: pairs and unit, two trajectories, hours. */
 #define GIQAPSUN_FILE_MOST (48 + 2 * GIQAPSUN_STAGES * 2 + 3 * GIQAPSUN_HOURS)

@@ -12,14 +12,23 @@ pub fn count(case: &Case, list: &[u16]) -> usize {
     let (lock, locks) = locks(case, list);
     let slots = WORK / (usize::from(case.capacity - case.minimum) + 1 + SIDE);
     let stride = hours.div_ceil(slots);
+    // from the next layer that is kept, or the end of the day, down to the layer of an hour
+    let again = |hour: usize| (hour.div_ceil(stride) * stride).min(hours) - hour;
     // back from the end of the day, with the worth of a start in each hour
     let back = hours + lock.min(hours) + hours.saturating_sub(lock) * lock;
-    // forward: from the next layer that is kept down to the hour at which the lock ends, and through the lock
-    let forward = |k: usize| {
-        let base = (k + 1 + locks[k].saturating_sub(1)).min(hours);
-        let kept = (base.div_ceil(stride) * stride).min(hours);
-        kept - (k + 1)
-    };
-    // the first hour is chosen once for what the day earns and once for its output
-    back + forward(0) + (0..hours).map(forward).sum::<usize>()
+    // forward: the rows of a lock are made once, from the layer of the hour at which it ends; outside a lock the layer
+    // after the hour is read from its slot, or made again
+    let mut forward = 0;
+    let mut until = 0;
+    for (k, lock) in locks.iter().enumerate() {
+        let after = k + 1;
+        let end = (after + lock.saturating_sub(1)).min(hours);
+        if after == end {
+            forward += again(after);
+        } else if end != until {
+            forward += again(end) + end - after;
+            until = end;
+        }
+    }
+    back + forward
 }
