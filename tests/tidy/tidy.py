@@ -5,6 +5,7 @@ lemma that nothing cites, in its own file if it is private, in any file of crate
 an operator and a constructor that a pattern matches count as spoken of wherever their word stands.
 """
 
+import collections
 import pathlib
 import re
 import sys
@@ -52,15 +53,15 @@ def lemmas(path):
 def uncited(paths):
     """The lemmas that nothing cites."""
     texts = {path: COMMENT.sub("", path.read_text()) for path in paths}
-    everything = "\n".join(texts.values())
+    words = {path: collections.Counter(re.split(rf"{EDGE}|·", text)) for path, text in texts.items()}
+    everything = sum(words.values(), collections.Counter())
     found = []
     for path in paths:
         if path.suffix != ".antt" or path.name in ("Proof.antt", "Promises.antt") or "proofs" not in path.parts:
             continue
         for indent, name, public in lemmas(path):
-            where = everything if public else texts[path]
+            spoken = (everything if public else words[path])[name]
             word = re.escape(name)
-            spoken = len(re.findall(rf"(?:^|{EDGE}|[·]){word}(?=$|{EDGE})", where, re.MULTILINE))
             own = len(re.findall(rf"^{indent}(?:pub )?{word}(?: :| =|\s.* =$|\s.* = )", texts[path], re.MULTILINE))
             if spoken <= own:
                 found.append((path, name))
