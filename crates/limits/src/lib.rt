@@ -3,6 +3,7 @@ ghost use mathlib.Core.Bool.{cond};
 ghost use mathlib.Core.Path.{_≡_};
 ghost use Prim.Native.Nat.{suc, _≤_, _<_};
 ghost use lib.Dec.{leb, ltb};
+ghost use Rattle.model.specs.Limits.{mostStages, mostHours, mostOrder};
 ghost use Rattle.model.specs.Symbols.{every, stage, hourly};
 ghost use Rattle.model.specs.Refusals.{within, refusal2, refusal3, refusal4, refusal5, refusal6, refusal7, refusal8};
 ghost use Rattle.model.specs.Refusals.{refusalOf};
@@ -10,24 +11,14 @@ ghost use Rattle.model.specs.Refusals.{climbs, descends};
 ghost use Rattle.limits.specs.Counts.{Counted};
 use model::Case;
 use model::HOURS;
+use model::MOST_CHARGE;
+use model::MOST_ELAPSED;
+use model::MOST_ORDER;
+use model::MOST_OUTPUT;
+use model::MOST_TIME;
+use model::MOST_VARIABLE;
 use model::Output;
 use model::STAGES;
-
-// Megawatts: a capacity or a ramp, at the most.
-const MOST_OUTPUT: u16 = 400;
-
-// Hours: a minimum time, and h, at the most.
-const MOST_TIME: u16 = 8;
-
-const MOST_ELAPSED: u16 = 10000;
-
-// Mills: F, and A, B or C, at the most.
-const MOST_VARIABLE: u32 = 1000000;
-
-const MOST_CHARGE: u32 = 100000000;
-
-// The highest order byte: off-line.
-const MOST_ORDER: u8 = 2;
 
 // Whether a count is from 1 to `most`.
 pub fn counted(n: usize, most: usize) -> bool
@@ -78,7 +69,7 @@ fn refusal5(case: Case) -> bool
 
 // Whether each of the first outputs is below the next, over `steps` steps.
 fn rises(outputs: [Output; STAGES], steps: usize) -> bool
-    requires { ⌜ steps < 8 ⌝ }
+    requires { ⌜ steps < mostStages ⌝ }
     ensures { λ r. ⌜ r ≡ every (λ i. ltb (stage outputs i) (stage outputs (suc i))) steps ⌝ }
 {
     let mut so = true;
@@ -94,7 +85,7 @@ fn rises(outputs: [Output; STAGES], steps: usize) -> bool
 
 // Whether each of the first outputs is above the next, over `steps` steps.
 fn falls(outputs: [Output; STAGES], steps: usize) -> bool
-    requires { ⌜ steps < 8 ⌝ }
+    requires { ⌜ steps < mostStages ⌝ }
     ensures { λ r. ⌜ r ≡ every (λ i. ltb (stage outputs (suc i)) (stage outputs i)) steps ⌝ }
 {
     let mut so = true;
@@ -153,8 +144,8 @@ fn refusal7(case: Case) -> bool
 
 // Whether each of the first n order bytes is 0, 1 or 2.
 fn ordered(orders: [u8; HOURS], n: usize) -> bool
-    requires { ⌜ n ≤ 48 ⌝ }
-    ensures { λ r. ⌜ r ≡ every (λ k. leb (hourly orders k) 2) n ⌝ }
+    requires { ⌜ n ≤ mostHours ⌝ }
+    ensures { λ r. ⌜ r ≡ every (λ k. leb (hourly orders k) mostOrder) n ⌝ }
 {
     let mut so = true;
     let mut i = 0;

@@ -5,14 +5,49 @@
 
 ghost use mathlib.Core.Path.{_≡_};
 ghost use Prim.Native.Nat.{_+_, _-_, _<_, min, max};
+ghost use Rattle.model.specs.Limits.{words};
 
-// Entries that a record has room for: outputs of a trajectory, hours of a day.
+// The limits of a case, each named once (specs/Limits). Entries that a record has room for: outputs of a trajectory,
+// hours of a day.
 pub const STAGES: usize = 8;
 
 pub const HOURS: usize = 48;
 
+// Megawatts: a capacity or a ramp, at the most.
+pub const MOST_OUTPUT: u16 = 400;
+
+// Hours: a minimum time, and h, at the most.
+pub const MOST_TIME: u16 = 8;
+
+pub const MOST_ELAPSED: u16 = 10000;
+
+// Mills: F, and A, B or C, at the most.
+pub const MOST_VARIABLE: u32 = 1000000;
+
+pub const MOST_CHARGE: u32 = 100000000;
+
+// The highest order byte: off-line.
+pub const MOST_ORDER: u8 = 2;
+
 // Signed 64-bit numbers that a search is lent to work in.
 pub const WORK: usize = 8192;
+
+// Bytes of an input that the program reads as a case, at the most.
+pub const INPUT: usize = 4096;
+
+// Bytes of a case file: its four pairs, the unit section, both together, an output of a trajectory, an hour.
+pub const PAIRS_BYTES: usize = 16;
+
+pub const UNIT_BYTES: usize = 32;
+
+pub const FRONT_BYTES: usize = PAIRS_BYTES + UNIT_BYTES;
+
+pub const STAGE_BYTES: usize = 2;
+
+pub const HOUR_BYTES: usize = 3;
+
+// How many 16-bit numbers there are.
+pub const WORDS: u32 = 65536;
 
 // Megawatts: an output at the end of an hour, or the most that it may change in an hour.
 #[repr(C)]
@@ -21,7 +56,7 @@ pub struct Output(pub u16);
 impl Output {
     // This output and as much more.
     pub fn plus(self, by: Output) -> Output
-        requires { ⌜ self .0 + by .0 < 65536 ⌝ }
+        requires { ⌜ self .0 + by .0 < words ⌝ }
         ensures { λ r. ⌜ r .0 ≡ self .0 + by .0 ⌝ }
     {
         Output(self.0 + by.0)
@@ -59,7 +94,7 @@ pub struct Hour(pub u16);
 impl Hour {
     // An hour later.
     pub fn next(self) -> Hour
-        requires { ⌜ self .0 + 1 < 65536 ⌝ }
+        requires { ⌜ self .0 + 1 < words ⌝ }
         ensures { λ r. ⌜ r .0 ≡ self .0 + 1 ⌝ }
     {
         Hour(self.0 + 1)

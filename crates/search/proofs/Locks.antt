@@ -17,9 +17,11 @@ use Rattle.machine.specs.declared.Unit.{Unit}
 use Rattle.machine.specs.declared.Terms.{Terms}
 use Rattle.machine.specs.Moves.{worth, Worths}
 use Rattle.machine.specs.Fit.{Fit, Fair}
-use Rattle.cells.specs.Table.{Sized, Row, SideCell, Layer, Ahead, cellsOf, sideLength}
+use Rattle.cells.specs.Table.{Sized, Row, SideCell, Layer, Ahead, cellsOf}
+use Rattle.machine.specs.Lengths.{sideLength}
 use Rattle.rows.proofs.Ends.{row-to, row-over, row-at, sized-at}
-use Rattle.layers.specs.Saved.{RowAt, SavedAt, Saved, Locked, lockEnd, keptLength}
+use Rattle.layers.specs.Saved.{RowAt, SavedAt, Saved, Locked, lockEnd}
+use Rattle.machine.specs.Lengths.{keptLength}
 use Rattle.layers.proofs.Slots.{cells-side}
 
 module _ (u : Unit) (day : ℕ → Terms) where

@@ -1,12 +1,12 @@
 // The choice of an hour, from what the states after it are worth: from the layer's slot, from a kept row of the lock,
 // or from the layer made again. The definitions are those of machine's specs/Moves, cells' specs/Table and layers'
 // specs/Saved.
-use crate::lock::KEPT;
-use cells::ENTRIES;
 use cells::Pick;
-use cells::ROW;
-use cells::SIDE;
 use machine::Charges;
+use machine::ENTRIES;
+use machine::KEPT;
+use machine::ROW;
+use machine::SIDE;
 use machine::State;
 use machine::Terms;
 use machine::Unit;
@@ -20,7 +20,8 @@ ghost use Rattle.machine.specs.Moves.{dayOf, machine, worth, chosen, Worths};
 ghost use Rattle.machine.specs.Fit.{Fit, Fair};
 ghost use Rattle.machine.specs.Proper.{Proper};
 ghost use Rattle.cells.specs.Picks.{pickOf};
-ghost use Rattle.cells.specs.Table.{Sized, Ahead, Entries, Day, entry, lockOf, cellsOf, sideLength};
+ghost use Rattle.cells.specs.Table.{Sized, Ahead, Entries, Day, entry, lockOf, cellsOf};
+ghost use Rattle.machine.specs.Lengths.{sideLength};
 ghost use Rattle.layers.specs.Saved.{RowAt, SavedAt, Slotted, Saved, Locked, lockEnd};
 
 // From the layer at `off`, where no lock is looked at.

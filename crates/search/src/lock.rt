@@ -1,9 +1,10 @@
 // The rows of a lock, kept while the plan goes through its hours: each is made once, from the layer of the hour at
 // which the lock ends, or the end of the day. The definitions are those of layers' specs/Saved.
-use cells::ENTRIES;
-use cells::ROW;
-use cells::SIDE;
 use machine::Charges;
+use machine::ENTRIES;
+use machine::KEPT;
+use machine::ROW;
+use machine::SIDE;
 use machine::State;
 use machine::Unit;
 use model::Hour;
@@ -16,10 +17,8 @@ ghost use Rattle.machine.specs.Moves.{dayOf};
 ghost use Rattle.machine.specs.Fit.{Fit};
 ghost use Rattle.machine.specs.Proper.{Proper};
 ghost use Rattle.cells.specs.Table.{Entries, Day, lockOf};
-ghost use Rattle.layers.specs.Saved.{Slotted, Saved, Locked, lockEnd, keptLength};
-
-// Rows for a lock of eight hours.
-pub const KEPT: usize = 2800;
+ghost use Rattle.layers.specs.Saved.{Slotted, Saved, Locked, lockEnd};
+ghost use Rattle.machine.specs.Lengths.{keptLength};
 
 // The hour at which the rows that state s looks at after hour k come to the end of its lock, or of the day.
 pub fn end_of(u: Unit, k: Hour, s: State) -> Hour

@@ -12,12 +12,10 @@ ghost use Rattle.model.specs.Answers.{readOf};
 ghost use Rattle.model.specs.Printed.{readText, printedOf, printingOf};
 ghost use Rattle.text.specs.Puts.{Puts};
 use model::HOURS;
+use model::INPUT;
 use model::Plan;
 use model::WORK;
 use model::Written;
-
-// Bytes of an input that is read as a case, at the most.
-const INPUT: usize = 4096;
 
 // Bytes that no text exceeds: a profit line of 28, and 48 hour lines of 16.
 pub const LONGEST: usize = 796;
