@@ -97,10 +97,12 @@ unfolding zeroed
 zeroed-view c lim s =
     record {
       unit = refl;
-      rise = padded-cut noOutput (c .rise) (c .rises) 8 (omega (arith, lim .rises-le, s .rise)) (lim .rises-le);
-      fall = padded-cut noOutput (c .fall) (c .falls) 8 (omega (arith, lim .falls-le, s .fall)) (lim .falls-le);
-      prices = padded-cut 0 (c .prices) (c .hours) 48 (omega (arith, lim .hours-le, s .prices)) (lim .hours-le);
-      orders = padded-cut 0 (c .orders) (c .hours) 48 (omega (arith, lim .hours-le, s .orders)) (lim .hours-le);
+      rise =
+          padded-cut noOutput (c .rise) (c .rises) mostStages (omega (arith, lim .rises-le, s .rise)) (lim .rises-le);
+      fall =
+          padded-cut noOutput (c .fall) (c .falls) mostStages (omega (arith, lim .falls-le, s .fall)) (lim .falls-le);
+      prices = padded-cut 0 (c .prices) (c .hours) mostHours (omega (arith, lim .hours-le, s .prices)) (lim .hours-le);
+      orders = padded-cut 0 (c .orders) (c .hours) mostHours (omega (arith, lim .hours-le, s .orders)) (lim .hours-le);
     }
 
 blank-view : AllZero blank

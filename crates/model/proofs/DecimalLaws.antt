@@ -65,12 +65,12 @@ length-decimal (suc w) n h = go (ltb n 10) refl (length-decimal w (n / 10))
 valueOf-append : (xs ys : List ℕ) (so : ℕ) → valueOf so (xs ++ ys) ≡ valueOf (valueOf so xs) ys
 unfolding valueOf
 valueOf-append [] ys so = refl
-valueOf-append (x ∷ xs) ys so = valueOf-append xs ys (10 * so + (x - 48))
+valueOf-append (x ∷ xs) ys so = valueOf-append xs ys (10 * so + (x - glyph 0))
 
 -- n in decimal, where the first digit is 0 only for 0
 record Led (n : ℕ) (text : List ℕ) : Type 0 where
   spelt : Spells n text
-  above : 0 < n → 48 < getD text 0 0
+  above : 0 < n → glyph 0 < getD text 0 0
 
 one-led : (n : ℕ) → n < 10 → Led n (glyph n ∷ [])
 unfolding valueOf
@@ -90,16 +90,16 @@ module _ (n : ℕ) (large : 10 ≤ n) (xs : List ℕ) (less : Led (n / 10) xs) w
   abbrev end : List ℕ
   end = glyph (n % 10) ∷ []
 
-  digit-more : (i : ℕ) → i < length (xs ++ end) → (48 ≤ getD (xs ++ end) i 0) × (getD (xs ++ end) i 0 ≤ 57)
+  digit-more : (i : ℕ) → i < length (xs ++ end) → (glyph 0 ≤ getD (xs ++ end) i 0) × (getD (xs ++ end) i 0 ≤ 57)
   digit-more i h = go (ltb i (length xs)) refl
     where
-      go : (t : Bool) → ltb i (length xs) ≡ t → (48 ≤ getD (xs ++ end) i 0) × (getD (xs ++ end) i 0 ≤ 57)
+      go : (t : Bool) → ltb i (length xs) ≡ t → (glyph 0 ≤ getD (xs ++ end) i 0) × (getD (xs ++ end) i 0 ≤ 57)
       go true e = let g = ltb-true i (length xs) e in rw (List·getD-append xs end 0 i g) (less .spelt .digit i g)
       go false e =
           let last : length xs ≡ i = omega (arith, ltb-false i (length xs) e, length-append xs end) in
           rw (getD-at xs (glyph (n % 10)) [] 0 i last) (omega arith, omega arith)
 
-  above-more : 48 < getD (xs ++ end) 0 0
+  above-more : glyph 0 < getD (xs ++ end) 0 0
   above-more = rw (List·getD-append xs end 0 0 (less .spelt .some)) (less .above (omega arith))
 
   holds-more : valueOf 0 (xs ++ end) ≡ n

@@ -12,7 +12,7 @@ use lib.Dec.{ltb, eqb, eqb·suc-zero}
 use lib.ListN.{length}
 use Rattle.laws.proofs.Tests.{both, neither}
 use Rattle.model.specs.declared.Case.{Case}
-use Rattle.model.specs.Limits.{mostStages, mostHours}
+use Rattle.model.specs.Limits.{mostStages, mostHours, pairsLength, unitLength}
 use Rattle.model.specs.Layout.{offsetAt, lengthAt, endAt, caseOf}
 use Rattle.model.specs.Refusals.{refusal1, misfits, refusal2File, firstOf, tests, refusalOf}
 use Rattle.model.specs.Answers.{readingOf, readOf, outcomeNumber}
@@ -44,14 +44,14 @@ module _ (s : List ℕ) where
   chained : refusal1 s ≡ false → Chained s
   unfolding refusal1
   chained e =
-      let (a, r) = neither (ltb (length s) 16) _ e in
-      let (o0, r0) = both (eqb (offsetAt s 0) 16) _ (not-false _ r) in
+      let (a, r) = neither (ltb (length s) pairsLength) _ e in
+      let (o0, r0) = both (eqb (offsetAt s 0) pairsLength) _ (not-false _ r) in
       let (o1, r1) = both (eqb (offsetAt s 1) (endAt s 0)) _ r0 in
       let (o2, r2) = both (eqb (offsetAt s 2) (endAt s 1)) _ r1 in
       let (o3, o4) = both (eqb (offsetAt s 3) (endAt s 2)) (eqb (endAt s 3) (length s)) r2 in
       record {
-        pairs = ltb-false (length s) 16 a;
-        unit = sym (offset-word 0) ∙ eqb-true (offsetAt s 0) 16 o0;
+        pairs = ltb-false (length s) pairsLength a;
+        unit = sym (offset-word 0) ∙ eqb-true (offsetAt s 0) pairsLength o0;
         rise = sym (offset-word 1) ∙ eqb-true (offsetAt s 1) (endAt s 0) o1 ∙ end-word 0;
         fall = sym (offset-word 2) ∙ eqb-true (offsetAt s 2) (endAt s 1) o2 ∙ end-word 1;
         hours = sym (offset-word 3) ∙ eqb-true (offsetAt s 3) (endAt s 2) o3 ∙ end-word 2;
@@ -62,8 +62,8 @@ module _ (s : List ℕ) where
   unfolding refusal1
   refusal1-chained c =
       rw (
-        le-ltb (length s) 16 (c .pairs),
-        eq-eqb (offsetAt s 0) 16 (offset-word 0 ∙ c .unit),
+        le-ltb (length s) pairsLength (c .pairs),
+        eq-eqb (offsetAt s 0) pairsLength (offset-word 0 ∙ c .unit),
         eq-eqb (offsetAt s 1) (endAt s 0) (offset-word 1 ∙ c .rise ∙ sym (end-word 0)),
         eq-eqb (offsetAt s 2) (endAt s 1) (offset-word 2 ∙ c .fall ∙ sym (end-word 1)),
         eq-eqb (offsetAt s 3) (endAt s 2) (offset-word 3 ∙ c .hours ∙ sym (end-word 2)),
@@ -74,14 +74,14 @@ module _ (s : List ℕ) where
   measured : refusal2File s ≡ false → Measured s (caseOf s) × Counts (caseOf s)
   unfolding refusal2File caseOf
   measured e =
-      let (l0, r0) = neither (not (eqb (lengthAt s 0) 32)) _ e in
+      let (l0, r0) = neither (not (eqb (lengthAt s 0) unitLength)) _ e in
       let (l1, r1) = neither (misfits 2 mostStages (lengthAt s 1)) _ r0 in
       let (l2, l3) = neither (misfits 2 mostStages (lengthAt s 2)) (misfits 3 mostHours (lengthAt s 3)) r1 in
       let (rises, rises-in) = misfits-false 2 mostStages (lengthAt s 1) l1 in
       let (falls, falls-in) = misfits-false 2 mostStages (lengthAt s 2) l2 in
       let (hours, hours-in) = misfits-false 3 mostHours (lengthAt s 3) l3 in (
         record {
-          unit = sym (length-word 0) ∙ eqb-true (lengthAt s 0) 32 (not-false _ l0);
+          unit = sym (length-word 0) ∙ eqb-true (lengthAt s 0) unitLength (not-false _ l0);
           rise = sym (rises ∙ length-word 1);
           fall = sym (falls ∙ length-word 2);
           hours = sym (hours ∙ length-word 3);

@@ -1,20 +1,20 @@
 -- The numbers of a file by its bytes: those of its sections stand at their absolute offsets, so a file with whole
 -- sections holds its record, and the bytes of a record within the limits hold that record. Assumes nothing.
-use mathlib.Core.Path.{_≡_, refl, sym, ap, _∙_}
-use mathlib.Core.List.{List, [], _∷_, map}
+use mathlib.Core.Path.{_≡_, sym, ap, _∙_}
+use mathlib.Core.List.{List}
 use Prim.Native.Nat.{ℕ, suc, _+_, _*_, _/_, _≤_, _<_}
 use native.Mathlib.Numerals.{add-one}
 use native.Mathlib.Omega.{arith}
 use lib.ListN.{getD}
 use Rattle.model.specs.declared.Case.{Case}
 use Rattle.model.specs.declared.Output.{Output}
-use Rattle.model.specs.Limits.{mostStages}
-use Rattle.model.specs.Layout.{numberAt, offsetAt, lengthAt, endAt, joined, bytes, padded, noOutput}
-use Rattle.model.specs.Layout.{stageBytes, pairBytes, unitBytes, hourBytes, bytesOf, zeroed, sectionAt, caseOf}
+use Rattle.model.specs.Limits.{mostStages, unitLength, frontLength, pairsLength}
+use Rattle.model.specs.Layout.{numberAt, offsetAt, lengthAt, endAt, padded, noOutput}
+use Rattle.model.specs.Layout.{fallFrom, hoursFrom}
+use Rattle.model.specs.Layout.{bytesOf, zeroed, sectionAt, caseOf}
 use Rattle.model.specs.Refusals.{refusalOf}
 use Rattle.model.specs.Answers.{readOf, outcomeNumber}
 use Rattle.model.specs.Published.{word, long, Chained, Measured, Holds, Stored}
-use Rattle.model.specs.Days.{outputs, at, dayOf, case7}
 use Rattle.model.proofs.LimitsLaws.{limits-of-refusalOf}
 use Rattle.model.proofs.LayoutLaws.{numberAt-suc, numberAt-part, getD-padded-in}
 use Rattle.model.proofs.NumbersLaws.{numberAt-one}
@@ -77,13 +77,14 @@ module _ (file : List ℕ) (whole : Whole file) where
         end = omega (arith, n 12, n 14, whole .end);
       }
 
-  unit-word : (k : ℕ) → k + 2 ≤ 32 → word file (16 + k) ≡ numberAt (sectionAt file 0) k 2
-  unit-word k h = section-word file 0 (16 + k) k (omega (arith, whole .offset0)) (omega (arith, whole .length0))
+  unit-word : (k : ℕ) → k + 2 ≤ unitLength → word file (pairsLength + k) ≡ numberAt (sectionAt file 0) k 2
+  unit-word k h =
+      section-word file 0 (pairsLength + k) k (omega (arith, whole .offset0)) (omega (arith, whole .length0))
 
-  unit-long : (k : ℕ) → k + 4 ≤ 32 → long file (16 + k) ≡ numberAt (sectionAt file 0) k 4
+  unit-long : (k : ℕ) → k + 4 ≤ unitLength → long file (pairsLength + k) ≡ numberAt (sectionAt file 0) k 4
   unit-long k h =
-      sym (numberAt-long file (16 + k))
-      ∙ section-numberAt file 0 (16 + k) k 4 (omega (arith, whole .offset0)) (omega (arith, whole .length0))
+      sym (numberAt-long file (pairsLength + k))
+      ∙ section-numberAt file 0 (pairsLength + k) k 4 (omega (arith, whole .offset0)) (omega (arith, whole .length0))
 
   module _ (c : Case) (e : caseOf file ≡ zeroed c) where
     length-rise : lengthAt file 1 ≡ 2 * c .rises
@@ -109,41 +110,41 @@ module _ (file : List ℕ) (whole : Whole file) where
           hours = sym (n 14) ∙ length-hours;
         }
 
-    offset-rise : offsetAt file 1 ≡ 48
+    offset-rise : offsetAt file 1 ≡ frontLength
     unfolding endAt
     offset-rise = omega (arith, whole .offset0, whole .length0, whole .offset1)
 
-    offset-fall : offsetAt file 2 ≡ 48 + 2 * c .rises
+    offset-fall : offsetAt file 2 ≡ fallFrom c
     unfolding endAt
     offset-fall = omega (arith, offset-rise, length-rise, whole .offset2)
 
-    offset-hours : offsetAt file 3 ≡ 48 + 2 * c .rises + 2 * c .falls
+    offset-hours : offsetAt file 3 ≡ hoursFrom c
     unfolding endAt
     offset-hours = omega (arith, offset-fall, length-fall, whole .offset3)
 
-    rise-word : (i : ℕ) → i < c .rises → word file (48 + 2 * i) ≡ getD (c .rise) i noOutput .0
+    rise-word : (i : ℕ) → i < c .rises → word file (frontLength + 2 * i) ≡ getD (c .rise) i noOutput .0
     unfolding caseOf zeroed
     rise-word =
-        stage-word file 1 48 (c .rises) (c .rise) offset-rise (whole .length1) (whole .rises-le)
+        stage-word file 1 frontLength (c .rises) (c .rise) offset-rise (whole .length1) (whole .rises-le)
         (ap (λ d. d .rises) e) (ap (λ d. d .rise) e)
 
-    fall-word : (i : ℕ) → i < c .falls → word file (48 + 2 * c .rises + 2 * i) ≡ getD (c .fall) i noOutput .0
+    fall-word : (i : ℕ) → i < c .falls → word file (fallFrom c + 2 * i) ≡ getD (c .fall) i noOutput .0
     unfolding caseOf zeroed
     fall-word =
-        stage-word file 2 (48 + 2 * c .rises) (c .falls) (c .fall) offset-fall (whole .length2) (whole .falls-le)
+        stage-word file 2 (fallFrom c) (c .falls) (c .fall) offset-fall (whole .length2) (whole .falls-le)
         (ap (λ d. d .falls) e) (ap (λ d. d .fall) e)
 
-    price-word : (i : ℕ) → i < c .hours → word file (48 + 2 * c .rises + 2 * c .falls + 3 * i) ≡ getD (c .prices) i 0
+    price-word : (i : ℕ) → i < c .hours → word file (hoursFrom c + 3 * i) ≡ getD (c .prices) i 0
     unfolding caseOf zeroed
     price-word i h =
         section-word file 3 _ (3 * i) (omega (arith, offset-hours)) (omega (arith, length-hours))
         ∙ padded-entry 0 _ _ (ap (λ d. d .prices) e) (ap (λ d. d .hours) e) (whole .hours-le) i h
 
     order-byte : (i : ℕ) → i < c .hours
-        → getD file (48 + 2 * c .rises + 2 * c .falls + 3 * i + 2) 0 ≡ getD (c .orders) i 0
+        → getD file (hoursFrom c + 3 * i + 2) 0 ≡ getD (c .orders) i 0
     unfolding caseOf zeroed
     order-byte i h =
-        let at = 48 + 2 * c .rises + 2 * c .falls + 3 * i + 2 in
+        let at = hoursFrom c + 3 * i + 2 in
         sym (numberAt-one file at)
         ∙ section-numberAt file 3 at (3 * i + 2) 1 (omega (arith, offset-hours)) (omega (arith, length-hours))
         ∙ padded-entry 0 _ _ (ap (λ d. d .orders) e) (ap (λ d. d .hours) e) (whole .hours-le) i h
@@ -183,9 +184,3 @@ holds-caseOf file whole = holds-of-caseOf file whole (caseOf file) (sym (zeroed-
 
 pub read-holds : (s : List ℕ) → outcomeNumber (readOf s .outcome) ≡ 0 → Holds s (readOf s .case)
 read-holds s e = let r = read-accepted s (readOf-accepted s e) in rw (r .record-is) (holds-caseOf s (r .whole-file))
-
--- the pairs of case 7
-pub case7-pairs : map (word (bytesOf case7)) (0 ∷ 2 ∷ 4 ∷ 6 ∷ 8 ∷ 10 ∷ 12 ∷ 14 ∷ [])
-    ≡ 16 ∷ 32 ∷ 48 ∷ 4 ∷ 52 ∷ 4 ∷ 56 ∷ 9 ∷ []
-unfolding bytes joined pairBytes unitBytes stageBytes hourBytes bytesOf outputs at dayOf case7
-case7-pairs = refl

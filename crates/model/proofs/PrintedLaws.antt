@@ -20,7 +20,7 @@ use Rattle.model.specs.declared.Outcome.the-variants.{Accepted, Refused}
 use Rattle.model.specs.declared.Plan.{Plan}
 use Rattle.model.specs.declared.Plan.the-variants.{Found, Refused as NotPlanned}
 use Rattle.model.specs.declared.Written.the-variants.{Bytes, Refused as NotWritten}
-use Rattle.model.specs.Limits.{mostHours, mostInput, workLength}
+use Rattle.model.specs.Limits.{mostHours, mostInput, workLength, words}
 use Rattle.model.specs.Symbols.{last, p0}
 use Rattle.model.specs.Marks.{p}
 use Rattle.model.specs.Profit.{energy, profitOf}
@@ -72,7 +72,13 @@ pub hourLine-is : (k output halves : ℕ)
 unfolding hourLine field listed
 hourLine-is k output halves = refl
 
--- how long each line is at the most
+-- how long each line is at the most: a profit has up to 19 digits, an hour 2, an output 5, half-megawatt-hours 6
+abbrev pub profitLineMost : ℕ
+profitLineMost = 28
+
+abbrev pub hourLineMost : ℕ
+hourLineMost = 2 + 1 + (5 + 1) + (6 + 1)
+
 pub length-refusedLine : (n : ℕ) → n < 1000 → length (refusedLine n) ≤ 12
 length-refusedLine n h =
     rw (refusedLine-is n) (simp length-append (omega (arith, length-decimal 2 n (omega arith))))
@@ -82,13 +88,13 @@ unfolding sign listed
 length-sign (pos n) = omega arith
 length-sign (negsuc n) = omega arith
 
-pub length-profitLine : (v : ℤ) → natAbs v < 10 ^ 19 → length (profitLine v) ≤ 28
+pub length-profitLine : (v : ℤ) → natAbs v < 10 ^ 19 → length (profitLine v) ≤ profitLineMost
 length-profitLine v h =
     rw (profitLine-is v (natAbs v) refl)
     (simp length-append (omega (arith, length-sign v, length-decimal 18 (natAbs v) h)))
 
-pub length-hourLine : (k output halves : ℕ) → k < 100 → output < 100000 → halves < 1000000
-    → length (hourLine k output halves) ≤ 16
+pub length-hourLine : (k output halves : ℕ) → k < 10 ^ 2 → output < 10 ^ 5 → halves < 10 ^ 6
+    → length (hourLine k output halves) ≤ hourLineMost
 length-hourLine k output halves hk ho hh =
     rw (hourLine-is k output halves)
     (simp length-append
@@ -123,13 +129,13 @@ module _ (c : Case) (l : List ℕ) where
       (eq-or-lt-of-le h)
 
   -- 16-bit outputs
-  module _ (opening : p0 c < 65536) (outputs : (i : ℕ) → getD l i 0 < 65536) where
-    p-lt : (k : ℕ) → p c l k < 65536
+  module _ (opening : p0 c < words) (outputs : (i : ℕ) → getD l i 0 < words) where
+    p-lt : (k : ℕ) → p c l k < words
     unfolding p
     p-lt zero = opening
     p-lt (suc k) = outputs k
 
-    pub length-hourLines : (n : ℕ) → n < 100 → length (hourLines c l n) ≤ 16 * n
+    pub length-hourLines : (n : ℕ) → n < 10 ^ 2 → length (hourLines c l n) ≤ hourLineMost * n
     unfolding hourLines energy
     length-hourLines zero h = omega arith
     length-hourLines (suc n) h =

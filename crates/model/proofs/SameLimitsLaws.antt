@@ -7,6 +7,7 @@ use Rattle.model.specs.declared.Case.{Case}
 use Rattle.model.specs.Symbols.{stage, hourly}
 use Rattle.model.specs.Published.{Counts, Trajectories, Opening, Orders, Limited, limit2, limit3, limit4, limit5}
 use Rattle.model.specs.Published.{limit6, limit7, limit8, word, Holds}
+use Rattle.model.specs.Limits.{frontLength}
 
 module _ {s : List ℕ} {c d : Case} (h : Holds s c) (k : Holds s d) (counts : Counts d) where
   rises-same : d .rises ≡ c .rises
@@ -27,7 +28,9 @@ module _ {s : List ℕ} {c d : Case} (h : Holds s c) (k : Holds s d) (counts : C
   unfolding stage
   fall-same zero l = refl
   fall-same (suc i) l =
-      sym (k .fall i l) ∙ ap (λ n. word s (48 + 2 * n + 2 * i)) rises-same ∙ h .fall i (omega (arith, falls-same))
+      sym (k .fall i l)
+      ∙ ap (λ n. word s (frontLength + 2 * n + 2 * i)) rises-same
+      ∙ h .fall i (omega (arith, falls-same))
 
   order-same : (i : ℕ) → i ≤ d .hours → hourly (d .orders) i ≡ hourly (c .orders) i
   unfolding hourly

@@ -2,14 +2,14 @@
 -- a file that was read is written as that file. Assumes nothing.
 use mathlib.Core.Path.{_≡_, refl, sym, ap, _∙_, subst}
 use mathlib.Core.List.{List, _++_}
-use Prim.Native.Nat.{ℕ, _+_, _*_, _≤_, _<_}
+use Prim.Native.Nat.{ℕ, _+_, _≤_, _<_}
 use native.Mathlib.Omega.{arith}
 use lib.ListN.{length, take, drop}
 use lib.Seq.{take-append-seam, drop-append-seam}
 use Rattle.model.specs.declared.Case.{Case}
 use Rattle.model.specs.declared.Outcome.the-variants.{Accepted}
 use Rattle.model.specs.declared.Written.the-variants.{Bytes, Refused}
-use Rattle.model.specs.Layout.{AllBytes, bytesOf, zeroed}
+use Rattle.model.specs.Layout.{AllBytes, bytesOf, zeroed, fileLength}
 use Rattle.model.specs.Refusals.{refusalOf}
 use Rattle.model.specs.Answers.{Writing, readOf, writeOf, writtenNumber, writtenLength}
 use Rattle.model.specs.Published.{Holds, Stored}
@@ -39,7 +39,7 @@ module _ (c : Case) (lent : List ℕ) where
       ∙ ap (λ l. record { answer = Bytes (length (bytesOf c)); lent = l }) (sets-front (bytesOf c) lent room)
 
   -- ---- what a writing leaves
-  pub written : Stored c → refusalOf c ≡ 0 → 48 + 2 * c .rises + 2 * c .falls + 3 * c .hours ≤ length lent
+  pub written : Stored c → refusalOf c ≡ 0 → fileLength c ≤ length lent
       → WritesFile c lent (writeOf c lent)
   written s e room =
       let b = bytesOf c in
@@ -52,7 +52,7 @@ module _ (c : Case) (lent : List ℕ) where
         beyond = drop-append-seam b rest;
       })
 
-  pub unwritten : refusalOf c ≡ 0 → length lent < 48 + 2 * c .rises + 2 * c .falls + 3 * c .hours
+  pub unwritten : refusalOf c ≡ 0 → length lent < fileLength c
       → WritesNone 10 lent (writeOf c lent)
   unwritten e short = unfiled-none (writeOf-short c lent e (omega (arith, length-bytesOf c)))
 

@@ -27,7 +27,7 @@ ascii text = listed (λ i. code (charAt text i)) (len text)
 
 -- the byte of a digit, 0 to 9
 abbrev pub glyph : ℕ → ℕ
-glyph d = 48 + d
+glyph d = code (charAt "0" 0) + d
 
 -- the decimal digits of n, the most significant first and no leading zero, where `width` of them are enough
 unfoldable pub digits : ℕ → ℕ → List ℕ

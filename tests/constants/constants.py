@@ -1,0 +1,66 @@
+"""Finds limits, sizes and bounds that stand as literals in crates/ where their names should.
+
+A limit of document 01 has one name in crates/model/src/lib.rt and one in its specs/Limits, a bound of a sum one in
+crates/machine/specs/Bounds; a size is derived from them by formula. The second views of model/specs, Days and Promises
+hold the published numbers on purpose. A number that is a limit in one place and a rule's or a refusal's number in another
+counts only after a comparison, where it bounds something.
+"""
+
+import pathlib
+import re
+import sys
+
+ROOT = pathlib.Path(__file__).resolve().parents[2]
+
+NAMED = ("model/src/lib.rt", "model/specs/Limits.antt", "machine/specs/Bounds.antt")
+VIEWS = tuple(f"model/{name}.antt" for name in ("specs/Published", "specs/Words", "specs/Days", "specs/Promises"))
+VIEWS += ("model/proofs/Days.antt",)
+# the number of a refusal, by file
+NUMBERED = {"model/proofs/RefusalsLaws.antt": ["≤ 8"]}
+
+# hours, megawatts, working numbers, bytes, mills; sizes of the search, of the check and of the text
+ALWAYS = [25, 48, 49, 56, 63, 64, 144, 400, 796, 2800, 4096, 4097, 6400, 8192, 10000, 65535, 65536]
+ALWAYS += [1000000, 100000000, 600000000]
+# stages, minimum times, offsets and their sums
+BOUNDS = [7, 8, 9, 15, 16, 17, 32]
+
+NUMBERS = "|".join(map(str, ALWAYS))
+LITERAL = re.compile(rf"(?<![\w.'·])(?:{NUMBERS})(?:(?:u8|u16|u32|u64|i64|usize)\b|(?![\w.']))")
+COMPARED = re.compile(rf"(?:≤|<|≡|<=|>=|==)\s(?:{'|'.join(map(str, BOUNDS))})(?![\w.'])")
+POWER = re.compile(r"(?<![\w'])2 \^ \d+")
+ASIDE = re.compile(r"(--|//).*$|^\s*(ghost )?use .*$|^#\[.*$")
+
+
+def literals(line):
+    """The literals of a line that should be names; comments and imports have none."""
+    text = ASIDE.sub("", line)
+    return [found.group() for pattern in (LITERAL, COMPARED, POWER) for found in pattern.finditer(text)]
+
+
+def faults(root):
+    """Each literal with its place, and how many files were read."""
+    found, files = [], 0
+    for path in sorted((root / "crates").glob("*/*/**/*")):
+        part = path.relative_to(root / "crates").as_posix()
+        if path.suffix not in (".rt", ".antt") or part in NAMED + VIEWS:
+            continue
+        files += 1
+        for number, line in enumerate(path.read_text(encoding="utf-8").splitlines(), 1):
+            wrong = [literal for literal in literals(line) if literal not in NUMBERED.get(part, [])]
+            found += [f"crates/{part}:{number}: {literal}" for literal in wrong]
+    return found, files
+
+
+def main():
+    found, files = faults(ROOT)
+    for fault in found:
+        print(f"constants: {fault} stands for a limit, a size or a bound, which has a name", file=sys.stderr)
+    if found or not files:
+        print(f"constants: {len(found)} literals in {files} files", file=sys.stderr)
+        return 1
+    print(f"constants: {files} files, every limit, size and bound by its name")
+    return 0
+
+
+if __name__ == "__main__":
+    sys.exit(main())
