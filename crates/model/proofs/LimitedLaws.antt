@@ -9,8 +9,10 @@ use native.Mathlib.Omega.{arith}
 use borrow.Author.Tests.{ltb-true, ltb-false, lt-ltb, le-ltb, le-leb, eq-eqb, ne-eqb}
 use lib.Dec.{leb, ltb}
 use Rattle.model.specs.declared.Case.{Case}
-use Rattle.model.specs.Limits.{mostStages, mostHours, mostOutput, mostTime, mostElapsed, mostVariable, mostCharge}
-use Rattle.model.specs.Symbols.{high, low, RU, RD, UD, DD, PU, PD, last, order, F, A, B, C, p0, h}
+use Rattle.model.specs.Limits.{mostStages, mostHours, mostOutput, mostTime, mostElapsed, mostVariable}
+use Rattle.model.specs.Limits.{mostCharge, mostOrder}
+use Rattle.model.specs.Symbols.{high, low, RU, RD, upTime, downTime, UD, DD, PU, PD, last, order}
+use Rattle.model.specs.Symbols.{F, A, B, C, p0, h}
 use Rattle.model.specs.Refusals.{refusal2, refusal3, refusal4, refusal5, climbs, descends, refusal6, refusal7}
 use Rattle.model.specs.Refusals.{refusal8, firstOf, tests, refusalOf}
 use Rattle.model.specs.Published.{Trajectories, Limited, limit2, limit3, limit4, limit5, limit6, limit7, limit8}
@@ -44,8 +46,8 @@ module _ (c : Case) where
       rw (
         between-within 1 mostOutput (RU c) (r .rampup),
         between-within 1 mostOutput (RD c) (r .rampdown),
-        between-within 1 mostTime (c .minup .0) (r .minup),
-        between-within 1 mostTime (c .mindown .0) (r .mindown),
+        between-within 1 mostTime (upTime c) (r .minup),
+        between-within 1 mostTime (downTime c) (r .mindown),
       )
 
   passes5 : Limited c 5 → refusal5 c ≡ false
@@ -100,7 +102,7 @@ module _ (c : Case) where
   passes8 : Limited c 8 → refusal8 c ≡ false
   unfolding refusal8
   passes8 (limit8 o) =
-      rw (all-every (λ k. leb (order c k) 2) (last c) (λ k a b. le-leb (order c k) 2 (o .orders k a b)))
+      rw (all-every (λ k. leb (order c k) mostOrder) (last c) (λ k a b. le-leb (order c k) mostOrder (o .orders k a b)))
 
   -- ---- and the other way
   limited2 : (refusal2 c ≡ false) ↔ Limited c 2
