@@ -1,5 +1,6 @@
 //! The days that are timed.
 
+use giqapsun::boundary::{OFF, ON};
 use giqapsun::Case;
 
 /// Prices of the source's Table III, in mills.
@@ -68,6 +69,26 @@ fn wide(ramp: u16, hours: usize) -> Case {
     }
 }
 
+/// 400 outputs, ramps 400, and prices that pay for the second and third hour of four: the plan goes up, to the
+/// capacity, down and off-line in each four hours, which the minimum times just allow.
+fn wave() -> Case {
+    let mut case = wide(400, 48);
+    for (k, price) in case.prices.iter_mut().enumerate() {
+        *price = if k % 4 == 1 || k % 4 == 2 { 50_000 } else { 0 };
+    }
+    Case { minup: 3, mindown: 1, startcost: 1_000, stopcost: 1_000, ..case }
+}
+
+/// 400 outputs, ramps 400, on-line from the start, with orders that stop the unit as soon as it may stop and start it
+/// again in the next hour: the most row steps that a day can take.
+fn stops() -> Case {
+    let mut case = wide(400, 48);
+    for (k, order) in case.orders.iter_mut().enumerate() {
+        *order = if k % 9 == 7 || k >= 43 { OFF } else { ON };
+    }
+    Case { mindown: 1, initial: 1, elapsed: 1, ..case }
+}
+
 /// Every day with its name.
 pub fn all() -> Vec<(&'static str, Case)> {
     vec![
@@ -75,5 +96,8 @@ pub fn all() -> Vec<(&'static str, Case)> {
         ("(b) the source's day twice, 48 h", source(48)),
         ("(c) 400 outputs, ramps 400, 48 h", wide(400, 48)),
         ("(d) 400 outputs, ramps 20, 48 h", wide(20, 48)),
+        ("(m) 400 outputs, ramps 100, 48 h", wide(100, 48)),
+        ("(g) 400 outputs, the most starts, 48 h", wave()),
+        ("(w) 400 outputs, the most row steps, 48 h", stops()),
     ]
 }

@@ -1,62 +1,71 @@
-//! The proved search beside a plain programme of the same recurrence, in turn in one process: medians,
-//! least times and their ratio. No test rests on a time.
+//! The proved search, a programme of the same recurrence within the same memory, and a plain one with all the memory it
+//! wants, in turn in one process: least times, medians and ratios. No test rests on a time.
 
+#[cfg(test)]
+mod agreement;
 mod days;
 mod library;
+mod memory;
 mod plain;
 mod steps;
+mod times;
+mod unit;
+mod window;
 
-use std::time::{Duration, Instant};
+use giqapsun::{Case, WORK};
+use std::hint::black_box;
+use times::Times;
 
-/// Rounds in which both are timed, one after the other.
-const ROUNDS: usize = 400;
+/// Rounds in which the three are timed, one after the other.
+const ROUNDS: usize = 300;
 
-/// The time of one call.
-fn timed<R>(mut call: impl FnMut() -> R) -> (Duration, R) {
-    let start = Instant::now();
-    let result = call();
-    (start.elapsed(), result)
+/// Rounds in which the check is timed, and the calls of each.
+const CHECKS: usize = 200;
+const CALLS: usize = 1000;
+
+/// The starts of a list.
+fn starts(case: &Case, list: &[u16]) -> usize {
+    let before = std::iter::once(&case.initial).chain(list);
+    before.zip(list).filter(|&(&q, &p)| q == 0 && p > 0).count()
 }
 
-/// Microseconds, for printing.
-fn micros(time: Duration) -> f64 {
-    time.as_nanos() as f64 / 1000.0
-}
-
-/// Median and least time.
-fn summary(mut times: Vec<Duration>) -> (f64, f64) {
-    times.sort();
-    (micros(times[times.len() / 2]), micros(times[0]))
+/// One line of the table: the three find the same list in every round, and the list passes.
+fn line(name: &str, case: &Case) -> String {
+    let mut work = vec![0i64; WORK];
+    let (mut outputs, mut within) = (vec![0u16; case.hours], vec![0u16; case.hours]);
+    let [mut proved, mut memory, mut plain, mut checks] = [(); 4].map(|()| Times::default());
+    for _ in 0..ROUNDS {
+        let plan = proved.take(1, || library::best(black_box(case), &mut work, &mut outputs));
+        let profit = memory.take(1, || memory::best(black_box(case), &mut work, &mut within));
+        let day = plain.take(1, || plain::best(black_box(case)));
+        assert!(plan.number == 0 && profit == Some(plan.profit), "{name}: {plan:?} and {profit:?}");
+        assert_eq!(outputs, within, "{name}: the list within the memory");
+        assert_eq!(day, profit.map(|profit| (profit, within.clone())), "{name}: the plain list");
+    }
+    for _ in 0..CHECKS {
+        let verdict = checks.take(CALLS, || library::check(black_box(case), black_box(&outputs)));
+        assert!(verdict.number == 0 && verdict.rule == 0, "{name}: the list does not pass");
+    }
+    let (steps, starts) = (steps::count(case, &outputs), starts(case, &outputs));
+    let (to_memory, to_plain) = (proved.ratio(&memory), proved.ratio(&plain));
+    format!(
+        "{name:<40}{proved:.1}{memory:.1}{plain:.1}{to_memory}{to_plain}{checks:.2}{steps:>10}{starts:>8}"
+    )
 }
 
 fn main() {
+    let columns = ["proved", "memory", "plain", "proved/memory", "proved/plain", "check"];
     println!(
-        "{:<34} {:>8} {:>8} {:>8} {:>8} {:>6} {:>6} {:>9} {:>6} {:>6}",
-        "day", "proved", "least", "plain", "least", "ratio", "least", "row steps", "check", "least"
+        "{:<40}{}{:>10}{:>8}",
+        "",
+        columns.map(|name| format!("{name:>16}")).concat(),
+        "row steps",
+        "starts"
     );
+    println!("{:<40}{}", "day", "   least  median".repeat(columns.len()));
     for (name, case) in days::all() {
-        let mut work = vec![0i64; giqapsun::WORK];
-        let mut outputs = vec![0u16; case.hours];
-        let (mut proved, mut plain, mut checks) = (Vec::new(), Vec::new(), Vec::new());
-        for _ in 0..ROUNDS {
-            let (time, plan) = timed(|| library::best(&case, &mut work, &mut outputs));
-            proved.push(time);
-            let (time, day) = timed(|| plain::best(&case));
-            plain.push(time);
-            let same = match &day {
-                Some((profit, list)) => plan.number == 0 && plan.profit == *profit && list[..] == outputs[..],
-                None => plan.number == 11,
-            };
-            assert!(same, "{name}: the two disagree");
-            let (time, verdict) = timed(|| library::check(&case, &outputs));
-            checks.push(time);
-            assert!(verdict.rule == 0 && verdict.profit == plan.profit, "{name}: the list does not pass");
-        }
-        let ((p, pl), (q, ql), (c, cl)) = (summary(proved), summary(plain), summary(checks));
-        let (ratio, least, steps) = (p / q, pl / ql, steps::count(&case, &outputs));
-        println!(
-            "{name:<34} {p:>8.1} {pl:>8.1} {q:>8.1} {ql:>8.1} {ratio:>6.2} {least:>6.2} {steps:>9} {c:>6.1} {cl:>6.1}"
-        );
+        println!("{}", line(name, &case));
     }
-    println!("microseconds; median and least of {ROUNDS} rounds taken in turn; ratio proved / plain");
+    println!("microseconds; {ROUNDS} rounds in turn, {CHECKS} of {CALLS} checks");
+    println!("the most row steps of any day within the limits: {}", steps::most());
 }

@@ -1,0 +1,91 @@
+//! The three find the same lists on random days.
+
+use crate::{library, memory, plain};
+use giqapsun::{Case, WORK};
+
+/// Pseudo-random numbers.
+struct Dice(u64);
+
+impl Dice {
+    /// A number from least to most.
+    fn roll(&mut self, least: u16, most: u16) -> u16 {
+        self.0 ^= self.0 << 13;
+        self.0 ^= self.0 >> 7;
+        self.0 ^= self.0 << 17;
+        least + (self.0 % u64::from(most - least + 1)) as u16
+    }
+
+    /// A trajectory that rises to the last of so many entries.
+    fn rise(&mut self, n: usize, last: u16) -> [u16; 8] {
+        let mut rise = [0; 8];
+        let mut most = last;
+        for i in (0..n).rev() {
+            rise[i] = if i + 1 == n { last } else { self.roll(i as u16 + 1, most - 1) };
+            most = rise[i];
+        }
+        rise
+    }
+
+    /// A day within the limits.
+    fn day(&mut self) -> Case {
+        let most = [5, 30, 400][self.roll(0, 2) as usize];
+        let capacity = self.roll(1, most);
+        let minimum = self.roll(1, capacity);
+        let (rises, falls) = (self.roll(1, minimum.min(8)) as usize, self.roll(1, minimum.min(8)) as usize);
+        let on = self.roll(0, 1) == 1;
+        let hours = self.roll(1, 48) as usize;
+        let spread = [3, 60, 60_000][self.roll(0, 2) as usize];
+        let ramp = [3, 30, 400][self.roll(0, 2) as usize];
+        let mut case = Case {
+            capacity,
+            minimum,
+            rampup: self.roll(1, ramp),
+            rampdown: self.roll(1, ramp),
+            minup: self.roll(1, 8),
+            mindown: self.roll(1, 8),
+            variable: u32::from(spread / 2),
+            fixed: u32::from(self.roll(0, spread)),
+            startcost: u32::from(self.roll(0, spread)),
+            stopcost: u32::from(self.roll(0, spread)),
+            initial: if on { self.roll(minimum, capacity) } else { 0 },
+            elapsed: if on { self.roll(rises as u16, 12) } else { self.roll(1, 12) },
+            rise: self.rise(rises, minimum),
+            rises,
+            falls,
+            hours,
+            ..Case::default()
+        };
+        let fall = self.rise(falls, minimum);
+        for i in 0..falls {
+            case.fall[i] = fall[falls - 1 - i];
+        }
+        let orders = [1, 3, 30, 300][self.roll(0, 3) as usize];
+        for k in 0..hours {
+            case.prices[k] = self.roll(0, spread);
+            let order = self.roll(0, 10 * orders);
+            case.orders[k] = if order == 1 || order == 2 { order as u8 } else { 0 };
+        }
+        case
+    }
+}
+
+#[test]
+fn random_days() {
+    let mut dice = Dice(0x9e37_79b9_7f4a_7c15);
+    let mut work = vec![0i64; WORK];
+    let mut none = 0;
+    for round in 0..20_000 {
+        let case = dice.day();
+        let mut outputs = vec![0; case.hours];
+        let plan = library::best(&case, &mut work, &mut outputs);
+        assert!(plan.number == 0 || plan.number == 11, "{round}: refused {}", plan.number);
+        let found = (plan.number == 0).then_some((plan.profit, outputs));
+        none += usize::from(found.is_none());
+        let mut list = vec![0; case.hours];
+        let within = memory::best(&case, &mut work, &mut list).map(|profit| (profit, list));
+        assert!(within == found, "{round}: within the memory {within:?} and not {found:?}: {case:?}");
+        let day = plain::best(&case);
+        assert!(day == found, "{round}: plain {day:?} and not {found:?}: {case:?}");
+    }
+    assert!(none > 100, "{none} days without a list");
+}

@@ -1,0 +1,272 @@
+//! The same recurrence within the memory that the product is lent: of every so many hours the row and the side are kept
+//! in the working numbers, and those between are made again; whatever else is held has a fixed length. None is a number
+//! so low that no day's amounts bring it near a worth, so that nothing has to be tested for it but the answer.
+
+use crate::unit::{State, Unit, ENDS, LOCK, NONE, OUTPUTS, SIDE, TIME};
+use crate::window::Window;
+use giqapsun::boundary::STAGES;
+use giqapsun::{Case, WORK};
+
+/// Where the start-up and the shut-down stand in a side.
+const RISE: usize = TIME + 1;
+const FALL: usize = RISE + STAGES;
+
+/// What the states are worth at the end of an hour.
+#[derive(Clone, Copy)]
+struct Layer {
+    /// At each output, where a stop may begin.
+    row: [i64; OUTPUTS],
+    /// Off-line, and in a sequence.
+    side: [i64; SIDE],
+}
+
+/// What is known of the day, and the memory of the search.
+struct Search<'a> {
+    unit: Unit<'a>,
+    /// The worth of a unit that has just come to its minimum output by a start, before each hour.
+    entries: [i64; ENDS],
+    /// How many hours from one kept layer to the next.
+    stride: usize,
+    /// The kept layers, row by row and side by side.
+    work: &'a mut [i64],
+    window: Window,
+    /// The rows of the lock that the plan is in, from its end back, and the hour of that end.
+    locked: [[i64; OUTPUTS]; LOCK],
+    until: usize,
+}
+
+impl Layer {
+    /// The end of the day: no day ends inside a shut-down.
+    fn end() -> Layer {
+        let mut layer = Layer { row: [0; OUTPUTS], side: [0; SIDE] };
+        layer.side[FALL..].fill(NONE);
+        layer
+    }
+}
+
+impl Search<'_> {
+    /// The worth of a state that is not on-line at an output with hours to go, but just after a start.
+    fn worth(&self, hour: usize, layer: &Layer, state: State) -> i64 {
+        match state {
+            State::Off(d) => layer.side[d],
+            State::Rise(i) => layer.side[RISE + i],
+            State::Fall(i) => layer.side[FALL + i],
+            State::Run(..) => self.entries[hour],
+        }
+    }
+
+    /// What going from output q to p in hour k is worth.
+    fn brought(&self, k: usize, q: usize, p: usize, after: &Layer, state: State) -> i64 {
+        if self.unit.allowed(k, p) {
+            self.unit.gain(k, q, p) + self.worth(k + 1, after, state)
+        } else {
+            NONE
+        }
+    }
+
+    /// Off-line for d hours: worth and output.
+    fn idle(&self, k: usize, d: usize, after: &Layer) -> (i64, usize) {
+        let unit = &self.unit;
+        let stay = self.brought(k, 0, 0, after, State::Off((d + 1).min(unit.rest)));
+        if d == unit.rest {
+            let first = usize::from(unit.case.rise[0]);
+            let start = self.brought(k, 0, first, after, unit.risen(0));
+            if start > stay {
+                return (start, first);
+            }
+        }
+        (stay, 0)
+    }
+
+    /// At the start-up's entry i.
+    fn rising(&self, k: usize, i: usize, after: &Layer) -> (i64, usize) {
+        let (q, p) = (usize::from(self.unit.case.rise[i]), usize::from(self.unit.case.rise[i + 1]));
+        (self.brought(k, q, p, after, self.unit.risen(i + 1)), p)
+    }
+
+    /// At the shut-down's entry i.
+    fn falling(&self, k: usize, i: usize, after: &Layer) -> (i64, usize) {
+        let p = self.unit.sunk(i + 1);
+        (self.brought(k, self.unit.sunk(i), p, after, self.unit.fallen(i + 1)), p)
+    }
+
+    /// The row of hour k, no stop being allowed in it, in place of the row of the hour after it.
+    fn hold(&mut self, k: usize, row: &mut [i64]) {
+        if self.unit.allowed(k, self.unit.low) {
+            let (up, down) = (usize::from(self.unit.case.rampup), usize::from(self.unit.case.rampdown));
+            let margin = self.unit.margin(k);
+            let first = margin * self.unit.low as i64;
+            self.window.pass(row, up, down, margin, first, first - self.unit.hold());
+        } else {
+            row.fill(NONE);
+        }
+    }
+
+    /// The layer of hour k in place of the layer of the hour after it.
+    fn step(&mut self, k: usize, layer: &mut Layer) {
+        let stop = self.falling(k, 0, layer).0;
+        let mut side = layer.side;
+        for (d, worth) in side.iter_mut().enumerate().take(self.unit.rest + 1).skip(1) {
+            *worth = self.idle(k, d, layer).0;
+        }
+        for i in 0..self.unit.rises - 1 {
+            side[RISE + i] = self.rising(k, i, layer).0;
+        }
+        for i in 1..self.unit.falls {
+            side[FALL + i] = self.falling(k, i, layer).0;
+        }
+        layer.side = side;
+        let cells = self.unit.cells;
+        self.hold(k, &mut layer.row[..cells]);
+        layer.row[0] = layer.row[0].max(stop);
+    }
+
+    /// The entries of the last hours, whose lock the end of the day cuts.
+    fn last_entries(&mut self) {
+        let (hours, cells) = (self.unit.case.hours, self.unit.cells);
+        let mut row = [0; OUTPUTS];
+        for k in (hours.saturating_sub(self.unit.lock)..hours).rev() {
+            self.hold(k, &mut row[..cells]);
+            self.entries[k] = row[0];
+        }
+    }
+
+    /// The entry whose lock ends before hour k.
+    fn enter(&mut self, k: usize, row: &[i64; OUTPUTS]) {
+        if let Some(start) = k.checked_sub(self.unit.lock) {
+            let cells = self.unit.cells;
+            let mut row = *row;
+            for h in (start..k).rev() {
+                self.hold(h, &mut row[..cells]);
+            }
+            self.entries[start] = row[0];
+        }
+    }
+
+    /// Back from the end of the day: the entries of all hours, and the layers that are kept.
+    fn back(&mut self) {
+        self.last_entries();
+        let cells = self.unit.cells;
+        let mut layer = Layer::end();
+        for k in (0..self.unit.case.hours).rev() {
+            self.step(k, &mut layer);
+            self.enter(k, &layer.row);
+            if k % self.stride == 0 {
+                let slot = &mut self.work[k / self.stride * (cells + SIDE)..][..cells + SIDE];
+                slot[..cells].copy_from_slice(&layer.row[..cells]);
+                slot[cells..].copy_from_slice(&layer.side);
+            }
+        }
+    }
+
+    /// The layer of hour k, made again from the next one that is kept.
+    fn layer(&mut self, k: usize) -> Layer {
+        let (hours, cells) = (self.unit.case.hours, self.unit.cells);
+        let mut layer = Layer::end();
+        let base = k.next_multiple_of(self.stride).min(hours);
+        if base < hours {
+            let slot = &self.work[base / self.stride * (cells + SIDE)..][..cells + SIDE];
+            layer.row[..cells].copy_from_slice(&slot[..cells]);
+            layer.side.copy_from_slice(&slot[cells..]);
+        }
+        for h in (k..base).rev() {
+            self.step(h, &mut layer);
+        }
+        layer
+    }
+
+    /// The best output within the ramps, the lowest of those that earn it.
+    fn across(&self, k: usize, i: usize, row: &[i64]) -> (i64, usize) {
+        let unit = &self.unit;
+        if !unit.allowed(k, unit.low) {
+            return (NONE, 0);
+        }
+        let first = i.saturating_sub(usize::from(unit.case.rampdown));
+        let last = (i + usize::from(unit.case.rampup)).min(unit.cells - 1);
+        let margin = unit.margin(k);
+        let mut line = unit.gain(k, unit.low + i, unit.low + first);
+        let (mut best, mut at) = (i64::MIN, first);
+        for (p, &worth) in row[..=last].iter().enumerate().skip(first) {
+            if line + worth > best {
+                (best, at) = (line + worth, p);
+            }
+            line += margin;
+        }
+        (best, unit.low + at)
+    }
+
+    /// On-line with j hours to go and more than one of them inside the day: the rows of the lock are made once.
+    fn locked(&mut self, k: usize, i: usize, end: usize) -> (i64, usize) {
+        let cells = self.unit.cells;
+        if self.until != end {
+            let mut row = self.layer(end).row;
+            for h in (k + 1..end).rev() {
+                self.hold(h, &mut row[..cells]);
+                self.locked[end - h - 1][..cells].copy_from_slice(&row[..cells]);
+            }
+            self.until = end;
+        }
+        self.across(k, i, &self.locked[end - k - 2])
+    }
+
+    /// Worth and output of hour k in a state.
+    fn choice(&mut self, k: usize, state: State) -> (i64, usize) {
+        if let State::Run(i, j) = state {
+            let end = (k + j).min(self.unit.case.hours);
+            if end > k + 1 {
+                return self.locked(k, i, end);
+            }
+        }
+        let layer = self.layer(k + 1);
+        match state {
+            State::Off(d) => self.idle(k, d, &layer),
+            State::Rise(i) => self.rising(k, i, &layer),
+            State::Fall(i) => self.falling(k, i, &layer),
+            State::Run(i, j) => {
+                let on = self.across(k, i, &layer.row);
+                if i > 0 || j > 0 {
+                    return on;
+                }
+                let stop = self.falling(k, 0, &layer);
+                if stop.0 < on.0 {
+                    on
+                } else {
+                    stop
+                }
+            }
+        }
+    }
+
+    /// The best list, into the outputs, and its profit; none where no list keeps every rule.
+    fn plan(&mut self, outputs: &mut [u16]) -> Option<i64> {
+        self.back();
+        let mut state = self.unit.opening();
+        let (profit, first) = self.choice(0, state);
+        if profit < NONE / 2 {
+            return None;
+        }
+        for (k, output) in outputs.iter_mut().enumerate().take(self.unit.case.hours) {
+            let p = if k == 0 { first } else { self.choice(k, state).1 };
+            *output = p as u16;
+            state = self.unit.follow(state, p);
+        }
+        Some(profit)
+    }
+}
+
+/// The profit of the best list of an accepted case, which fills the outputs; none where no list keeps every rule. The
+/// working numbers hold anything after.
+pub fn best(case: &Case, work: &mut [i64], outputs: &mut [u16]) -> Option<i64> {
+    let unit = Unit::of(case);
+    let stride = case.hours.div_ceil(WORK / (unit.cells + SIDE));
+    let mut search = Search {
+        unit,
+        entries: [0; ENDS],
+        stride,
+        work: &mut work[..WORK],
+        window: Window::new(),
+        locked: [[0; OUTPUTS]; LOCK],
+        until: 0,
+    };
+    search.plan(outputs)
+}
