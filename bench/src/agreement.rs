@@ -1,7 +1,12 @@
-//! The three find the same lists on random days.
+//! The programmes find the same lists as the library on random days.
 
+use crate::blocks::Blocks;
+use crate::queue::Queue;
 use crate::{library, memory, plain};
 use giqapsun::{Case, WORK};
+
+/// A programme within the memory.
+type Within = fn(&Case, &mut [i64], &mut [u16]) -> Option<i64>;
 
 /// Pseudo-random numbers.
 struct Dice(u64);
@@ -81,9 +86,11 @@ fn random_days() {
         assert!(plan.number == 0 || plan.number == 11, "{round}: refused {}", plan.number);
         let found = (plan.number == 0).then_some((plan.profit, outputs));
         none += usize::from(found.is_none());
-        let mut list = vec![0; case.hours];
-        let within = memory::best(&case, &mut work, &mut list).map(|profit| (profit, list));
-        assert!(within == found, "{round}: within the memory {within:?} and not {found:?}: {case:?}");
+        for (name, best) in [("memory", memory::best::<Queue> as Within), ("tuned", memory::best::<Blocks>)] {
+            let mut list = vec![0; case.hours];
+            let day = best(&case, &mut work, &mut list).map(|profit| (profit, list));
+            assert!(day == found, "{round}: {name} {day:?} and not {found:?}: {case:?}");
+        }
         let day = plain::best(&case);
         assert!(day == found, "{round}: plain {day:?} and not {found:?}: {case:?}");
     }

@@ -1,9 +1,9 @@
-//! The same recurrence within the memory that the product is lent: of every so many hours the row and the side are kept
-//! in the working numbers, and those between are made again; whatever else is held has a fixed length. None is a number
-//! so low that no day's amounts bring it near a worth, so that nothing has to be tested for it but the answer.
+//! The same recurrence within the memory that the product is lent: of every so many hours the row and the side are
+//! kept in the working numbers, and those between are made again; whatever else is held has a fixed length. None is
+//! so low that no day's amounts bring it near a worth, so that nothing is tested for it but the answer.
 
 use crate::unit::{State, Unit, ENDS, LOCK, NONE, OUTPUTS, SIDE, TIME};
-use crate::window::Window;
+use crate::window::{Line, Window};
 use giqapsun::boundary::STAGES;
 use giqapsun::{Case, WORK};
 
@@ -21,7 +21,8 @@ struct Layer {
 }
 
 /// What is known of the day, and the memory of the search.
-struct Search<'a> {
+struct Search<'a, W> {
+    /// The unit of the case.
     unit: Unit<'a>,
     /// The worth of a unit that has just come to its minimum output by a start, before each hour.
     entries: [i64; ENDS],
@@ -29,7 +30,8 @@ struct Search<'a> {
     stride: usize,
     /// The kept layers, row by row and side by side.
     work: &'a mut [i64],
-    window: Window,
+    /// The largest over a window.
+    window: W,
     /// The rows of the lock that the plan is in, from its end back, and the hour of that end.
     locked: [[i64; OUTPUTS]; LOCK],
     until: usize,
@@ -44,8 +46,8 @@ impl Layer {
     }
 }
 
-impl Search<'_> {
-    /// The worth of a state that is not on-line at an output with hours to go, but just after a start.
+impl<W: Window> Search<'_, W> {
+    /// The worth of a state off-line or in a sequence, or just after a start.
     fn worth(&self, hour: usize, layer: &Layer, state: State) -> i64 {
         match state {
             State::Off(d) => layer.side[d],
@@ -94,9 +96,10 @@ impl Search<'_> {
     fn hold(&mut self, k: usize, row: &mut [i64]) {
         if self.unit.allowed(k, self.unit.low) {
             let (up, down) = (usize::from(self.unit.case.rampup), usize::from(self.unit.case.rampdown));
-            let margin = self.unit.margin(k);
-            let first = margin * self.unit.low as i64;
-            self.window.pass(row, up, down, margin, first, first - self.unit.hold());
+            let slope = self.unit.margin(k);
+            let first = slope * self.unit.low as i64;
+            let after = Line { first: first - self.unit.hold(), slope };
+            self.window.pass(row, up, down, Line { first, slope }, after);
         } else {
             row.fill(NONE);
         }
@@ -121,12 +124,23 @@ impl Search<'_> {
         layer.row[0] = layer.row[0].max(stop);
     }
 
+    /// The outputs that are looked at so many hours after a start has come to the minimum output.
+    fn reached(&self, hours: usize) -> usize {
+        if W::NARROW {
+            self.unit.cells.min(1 + hours * usize::from(self.unit.case.rampup))
+        } else {
+            self.unit.cells
+        }
+    }
+
     /// The entries of the last hours, whose lock the end of the day cuts.
     fn last_entries(&mut self) {
-        let (hours, cells) = (self.unit.case.hours, self.unit.cells);
+        let hours = self.unit.case.hours;
+        let first = hours.saturating_sub(self.unit.lock);
         let mut row = [0; OUTPUTS];
-        for k in (hours.saturating_sub(self.unit.lock)..hours).rev() {
-            self.hold(k, &mut row[..cells]);
+        for k in (first..hours).rev() {
+            let seen = self.reached(k + 1 - first);
+            self.hold(k, &mut row[..seen]);
             self.entries[k] = row[0];
         }
     }
@@ -134,10 +148,10 @@ impl Search<'_> {
     /// The entry whose lock ends before hour k.
     fn enter(&mut self, k: usize, row: &[i64; OUTPUTS]) {
         if let Some(start) = k.checked_sub(self.unit.lock) {
-            let cells = self.unit.cells;
             let mut row = *row;
             for h in (start..k).rev() {
-                self.hold(h, &mut row[..cells]);
+                let seen = self.reached(h + 1 - start);
+                self.hold(h, &mut row[..seen]);
             }
             self.entries[start] = row[0];
         }
@@ -195,7 +209,7 @@ impl Search<'_> {
         (best, unit.low + at)
     }
 
-    /// On-line with j hours to go and more than one of them inside the day: the rows of the lock are made once.
+    /// On-line in a lock that ends later than the next hour: its rows are made once.
     fn locked(&mut self, k: usize, i: usize, end: usize) -> (i64, usize) {
         let cells = self.unit.cells;
         if self.until != end {
@@ -254,9 +268,9 @@ impl Search<'_> {
     }
 }
 
-/// The profit of the best list of an accepted case, which fills the outputs; none where no list keeps every rule. The
-/// working numbers hold anything after.
-pub fn best(case: &Case, work: &mut [i64], outputs: &mut [u16]) -> Option<i64> {
+/// The profit of the best list of an accepted case, which fills the outputs; none where no list keeps every rule.
+/// The working numbers hold anything after.
+pub fn best<W: Window>(case: &Case, work: &mut [i64], outputs: &mut [u16]) -> Option<i64> {
     let unit = Unit::of(case);
     let stride = case.hours.div_ceil(WORK / (unit.cells + SIDE));
     let mut search = Search {
@@ -264,7 +278,7 @@ pub fn best(case: &Case, work: &mut [i64], outputs: &mut [u16]) -> Option<i64> {
         entries: [0; ENDS],
         stride,
         work: &mut work[..WORK],
-        window: Window::new(),
+        window: W::new(),
         locked: [[0; OUTPUTS]; LOCK],
         until: 0,
     };

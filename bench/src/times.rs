@@ -9,7 +9,7 @@ use std::time::Instant;
 pub struct Times(Vec<f64>);
 
 impl Times {
-    /// Takes the time of one of so many calls, made one after the other, so that the clock's own cost does not count.
+    /// Takes the time of one of so many calls, made one after the other, so that the clock's cost is theirs together.
     pub fn take<R>(&mut self, calls: usize, mut call: impl FnMut() -> R) -> R {
         let start = Instant::now();
         for _ in 1..calls {
@@ -27,10 +27,10 @@ impl Times {
         [sorted[0], sorted[sorted.len() / 2]]
     }
 
-    /// The ratios of the least times and of the medians, for printing.
-    pub fn ratio(&self, other: &Times) -> String {
-        let ([least, median], [by, by_median]) = (self.summary(), other.summary());
-        format!("{:>8.2}{:>8.2}", least / by, median / by_median)
+    /// What another's least time and median are of these, for printing.
+    pub fn of(&self, other: &Times) -> String {
+        let ([least, median], [other_least, other_median]) = (self.summary(), other.summary());
+        format!("{:>8.2}{:>8.2}", other_least / least, other_median / median)
     }
 }
 

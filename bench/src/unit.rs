@@ -1,5 +1,5 @@
-//! The unit of a case, its states from hour to hour, and what an hour earns: what every programme of the recurrence
-//! needs.
+//! The unit of a case, its states from hour to hour, and what an hour earns: what each programme of the
+//! recurrence needs.
 
 use giqapsun::boundary::{HOURS, STAGES};
 use giqapsun::Case;
@@ -15,6 +15,15 @@ pub const LOCK: usize = TIME - 1;
 
 /// No list keeps the rules from here.
 pub const NONE: i64 = i64::MIN / 4;
+
+/// Below every worth, and below none with whatever a day adds to it.
+pub const LEAST: i64 = 2 * NONE;
+
+/// Numbers for the states off-line and in a sequence: hours off-line from 0, the start-up, the shut-down.
+pub const SIDE: usize = TIME + 1 + 2 * STAGES;
+
+/// Hours of a day and its end.
+pub const ENDS: usize = HOURS + 1;
 
 /// What does not change from hour to hour.
 pub struct Unit<'a> {
@@ -154,9 +163,3 @@ pub fn locks(unit: &Unit, list: &[u16]) -> Vec<usize> {
     }
     locks
 }
-
-/// Numbers for the states off-line and in a sequence: hours off-line from 0, the start-up, the shut-down.
-pub const SIDE: usize = TIME + 1 + 2 * STAGES;
-
-/// Hours of a day and its end.
-pub const ENDS: usize = HOURS + 1;

@@ -1,52 +1,54 @@
-//! The largest over a window that slides along a row, each place being looked at twice: the places of a window stand in
-//! two parts, the one to the left with the largest from each place to its end, and the one to the right with its largest
-//! alone. When the left part is used up, the right one takes its place.
+//! The largest over a window that slides along a row: what a way of finding it offers, and what they share.
 
-use crate::unit::{NONE, OUTPUTS};
+use crate::unit::LEAST;
 
-/// The memory of a pass.
-pub struct Window {
-    /// The row with its line added.
-    lifted: [i64; OUTPUTS],
-    /// The largest from each place to the end of the left part.
-    left: [i64; OUTPUTS],
+/// A way, with its memory.
+pub trait Window {
+    /// Whether the rows that a start goes through are made no wider than the minimum output can come in their hours.
+    const NARROW: bool;
+
+    /// Memory for any row.
+    fn new() -> Self;
+
+    /// Each place becomes the largest over the window from so many places below it to so many above it. A line is
+    /// added to the row before, and one to the answers.
+    fn pass(&mut self, row: &mut [i64], up: usize, down: usize, before: Line, after: Line);
 }
 
-impl Window {
-    /// Memory for any row.
-    pub fn new() -> Window {
-        Window { lifted: [0; OUTPUTS], left: [0; OUTPUTS] }
+/// An amount that rises evenly from place to place.
+#[derive(Clone, Copy)]
+pub struct Line {
+    /// At the first place.
+    pub first: i64,
+    /// From one place to the next.
+    pub slope: i64,
+}
+
+impl Line {
+    /// The amount at a place.
+    pub fn at(self, i: usize) -> i64 {
+        self.first + self.slope * i as i64
     }
 
-    /// Each place becomes the largest over the window from so many places below it to so many above it. Before, a line
-    /// is added to the row, and after, one to the answers: both rise by `slope`.
-    pub fn pass(&mut self, row: &mut [i64], up: usize, down: usize, slope: i64, before: i64, after: i64) {
-        let n = row.len();
-        let (lifted, left) = (&mut self.lifted[..n], &mut self.left[..n]);
-        let mut line = before;
-        for (to, &worth) in lifted.iter_mut().zip(row.iter()) {
-            *to = worth + line;
-            line += slope;
-        }
-        let (mut start, mut next) = (0, up.min(n));
-        let mut right = lifted[..next].iter().copied().fold(NONE * 2, i64::max);
-        let mut line = after;
-        for (i, to) in row.iter_mut().enumerate() {
-            if next < n {
-                right = right.max(lifted[next]);
-                next += 1;
-            }
-            let first = i.saturating_sub(down);
-            if first == start {
-                let mut top = NONE * 2;
-                for (place, &worth) in left[start..next].iter_mut().zip(&lifted[start..next]).rev() {
-                    top = top.max(worth);
-                    *place = top;
-                }
-                (start, right) = (next, NONE * 2);
-            }
-            *to = left[first].max(right) + line;
-            line += slope;
+    /// Each of the numbers, which are those from place i on, with the line added.
+    pub fn add(self, i: usize, numbers: impl Iterator<Item = i64>, to: &mut [i64]) {
+        let mut line = self.at(i);
+        for (to, number) in to.iter_mut().zip(numbers) {
+            *to = number + line;
+            line += self.slope;
         }
     }
+}
+
+/// The largest so far, from `top` on, at each place of a row.
+pub fn running(top: i64, row: &[i64]) -> impl Iterator<Item = i64> + '_ {
+    row.iter().scan(top, |top, &worth| {
+        *top = worth.max(*top);
+        Some(*top)
+    })
+}
+
+/// The largest of a row. One place after the other: without 64-bit compares of vectors this is the faster way.
+pub fn largest(row: &[i64]) -> i64 {
+    running(LEAST, row).last().unwrap_or(LEAST)
 }
