@@ -1,8 +1,8 @@
-//! The programmes find the same lists as the library on random days.
+//! The programmes find the same lists as the library on random days, none of which takes more row steps than the most.
 
 use crate::blocks::Blocks;
 use crate::queue::Queue;
-use crate::{library, memory, plain};
+use crate::{days, library, memory, plain, steps};
 use giqapsun::{Case, WORK};
 
 /// A programme within the memory.
@@ -78,7 +78,7 @@ impl Dice {
 fn random_days() {
     let mut dice = Dice(0x9e37_79b9_7f4a_7c15);
     let mut work = vec![0i64; WORK];
-    let mut none = 0;
+    let (mut none, most) = (0, steps::most());
     for round in 0..20_000 {
         let case = dice.day();
         let mut outputs = vec![0; case.hours];
@@ -91,8 +91,21 @@ fn random_days() {
             let day = best(&case, &mut work, &mut list).map(|profit| (profit, list));
             assert!(day == found, "{round}: {name} {day:?} and not {found:?}: {case:?}");
         }
+        let taken = found.as_ref().map_or(0, |(_, list)| steps::count(&case, list));
+        assert!(taken <= most, "{round}: {taken} row steps: {case:?}");
         let day = plain::best(&case);
         assert!(day == found, "{round}: plain {day:?} and not {found:?}: {case:?}");
     }
     assert!(none > 100, "{none} days without a list");
+}
+
+#[test]
+fn most_row_steps() {
+    let mut work = vec![0i64; WORK];
+    let taken = days::all().into_iter().map(|(_, case)| {
+        let mut outputs = vec![0; case.hours];
+        assert_eq!(library::best(&case, &mut work, &mut outputs).number, 0);
+        steps::count(&case, &outputs)
+    });
+    assert_eq!(taken.max(), Some(steps::most()));
 }
