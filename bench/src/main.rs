@@ -5,6 +5,7 @@
 mod agreement;
 mod blocks;
 mod days;
+mod layers;
 mod library;
 mod memory;
 mod plain;

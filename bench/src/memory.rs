@@ -1,197 +1,25 @@
-//! The same recurrence within the memory that the product is lent: of every so many hours the row and the side are
-//! kept in the working numbers, and those between are made again; whatever else is held has a fixed length. None is
-//! so low that no day's amounts bring it near a worth, so that nothing is tested for it but the answer.
+//! The same recurrence within the memory that the product is lent: the layers back from the end of the day, and then
+//! the plan forward, hour by hour. Whatever is held beside the working numbers has a fixed length.
 
-use crate::unit::{State, Unit, ENDS, LOCK, NONE, OUTPUTS, SIDE, TIME};
-use crate::window::{Line, Window};
-use giqapsun::boundary::STAGES;
-use giqapsun::{Case, WORK};
+use crate::layers::Layers;
+use crate::unit::{State, LOCK, NONE, OUTPUTS};
+use crate::window::Window;
+use giqapsun::Case;
 
-/// Where the start-up and the shut-down stand in a side.
-const RISE: usize = TIME + 1;
-const FALL: usize = RISE + STAGES;
-
-/// What the states are worth at the end of an hour.
-#[derive(Clone, Copy)]
-struct Layer {
-    /// At each output, where a stop may begin.
-    row: [i64; OUTPUTS],
-    /// Off-line, and in a sequence.
-    side: [i64; SIDE],
-}
-
-/// What is known of the day, and the memory of the search.
+/// The layers, and the rows of the lock that the plan is in.
 struct Search<'a, W> {
-    /// The unit of the case.
-    unit: Unit<'a>,
-    /// The worth of a unit that has just come to its minimum output by a start, before each hour.
-    entries: [i64; ENDS],
-    /// How many hours from one kept layer to the next.
-    stride: usize,
-    /// The kept layers, row by row and side by side.
-    work: &'a mut [i64],
-    /// The largest over a window.
-    window: W,
-    /// The rows of the lock that the plan is in, from its end back, and the hour of that end.
+    /// The layers of the day.
+    layers: Layers<'a, W>,
+    /// The rows of the lock, from its end back.
     locked: [[i64; OUTPUTS]; LOCK],
+    /// The hour of that end.
     until: usize,
 }
 
-impl Layer {
-    /// The end of the day: no day ends inside a shut-down.
-    fn end() -> Layer {
-        let mut layer = Layer { row: [0; OUTPUTS], side: [0; SIDE] };
-        layer.side[FALL..].fill(NONE);
-        layer
-    }
-}
-
 impl<W: Window> Search<'_, W> {
-    /// The worth of a state off-line or in a sequence, or just after a start.
-    fn worth(&self, hour: usize, layer: &Layer, state: State) -> i64 {
-        match state {
-            State::Off(d) => layer.side[d],
-            State::Rise(i) => layer.side[RISE + i],
-            State::Fall(i) => layer.side[FALL + i],
-            State::Run(..) => self.entries[hour],
-        }
-    }
-
-    /// What going from output q to p in hour k is worth.
-    fn brought(&self, k: usize, q: usize, p: usize, after: &Layer, state: State) -> i64 {
-        if self.unit.allowed(k, p) {
-            self.unit.gain(k, q, p) + self.worth(k + 1, after, state)
-        } else {
-            NONE
-        }
-    }
-
-    /// Off-line for d hours: worth and output.
-    fn idle(&self, k: usize, d: usize, after: &Layer) -> (i64, usize) {
-        let unit = &self.unit;
-        let stay = self.brought(k, 0, 0, after, State::Off((d + 1).min(unit.rest)));
-        if d == unit.rest {
-            let first = usize::from(unit.case.rise[0]);
-            let start = self.brought(k, 0, first, after, unit.risen(0));
-            if start > stay {
-                return (start, first);
-            }
-        }
-        (stay, 0)
-    }
-
-    /// At the start-up's entry i.
-    fn rising(&self, k: usize, i: usize, after: &Layer) -> (i64, usize) {
-        let (q, p) = (usize::from(self.unit.case.rise[i]), usize::from(self.unit.case.rise[i + 1]));
-        (self.brought(k, q, p, after, self.unit.risen(i + 1)), p)
-    }
-
-    /// At the shut-down's entry i.
-    fn falling(&self, k: usize, i: usize, after: &Layer) -> (i64, usize) {
-        let p = self.unit.sunk(i + 1);
-        (self.brought(k, self.unit.sunk(i), p, after, self.unit.fallen(i + 1)), p)
-    }
-
-    /// The row of hour k, no stop being allowed in it, in place of the row of the hour after it.
-    fn hold(&mut self, k: usize, row: &mut [i64]) {
-        if self.unit.allowed(k, self.unit.low) {
-            let (up, down) = (usize::from(self.unit.case.rampup), usize::from(self.unit.case.rampdown));
-            let slope = self.unit.margin(k);
-            let first = slope * self.unit.low as i64;
-            let after = Line { first: first - self.unit.hold(), slope };
-            self.window.pass(row, up, down, Line { first, slope }, after);
-        } else {
-            row.fill(NONE);
-        }
-    }
-
-    /// The layer of hour k in place of the layer of the hour after it.
-    fn step(&mut self, k: usize, layer: &mut Layer) {
-        let stop = self.falling(k, 0, layer).0;
-        let mut side = layer.side;
-        for (d, worth) in side.iter_mut().enumerate().take(self.unit.rest + 1).skip(1) {
-            *worth = self.idle(k, d, layer).0;
-        }
-        for i in 0..self.unit.rises - 1 {
-            side[RISE + i] = self.rising(k, i, layer).0;
-        }
-        for i in 1..self.unit.falls {
-            side[FALL + i] = self.falling(k, i, layer).0;
-        }
-        layer.side = side;
-        let cells = self.unit.cells;
-        self.hold(k, &mut layer.row[..cells]);
-        layer.row[0] = layer.row[0].max(stop);
-    }
-
-    /// The outputs that are looked at so many hours after a start has come to the minimum output.
-    fn reached(&self, hours: usize) -> usize {
-        if W::NARROW {
-            self.unit.cells.min(1 + hours * usize::from(self.unit.case.rampup))
-        } else {
-            self.unit.cells
-        }
-    }
-
-    /// The entries of the last hours, whose lock the end of the day cuts.
-    fn last_entries(&mut self) {
-        let hours = self.unit.case.hours;
-        let first = hours.saturating_sub(self.unit.lock);
-        let mut row = [0; OUTPUTS];
-        for k in (first..hours).rev() {
-            let seen = self.reached(k + 1 - first);
-            self.hold(k, &mut row[..seen]);
-            self.entries[k] = row[0];
-        }
-    }
-
-    /// The entry whose lock ends before hour k.
-    fn enter(&mut self, k: usize, row: &[i64; OUTPUTS]) {
-        if let Some(start) = k.checked_sub(self.unit.lock) {
-            let mut row = *row;
-            for h in (start..k).rev() {
-                let seen = self.reached(h + 1 - start);
-                self.hold(h, &mut row[..seen]);
-            }
-            self.entries[start] = row[0];
-        }
-    }
-
-    /// Back from the end of the day: the entries of all hours, and the layers that are kept.
-    fn back(&mut self) {
-        self.last_entries();
-        let cells = self.unit.cells;
-        let mut layer = Layer::end();
-        for k in (0..self.unit.case.hours).rev() {
-            self.step(k, &mut layer);
-            self.enter(k, &layer.row);
-            if k % self.stride == 0 {
-                let slot = &mut self.work[k / self.stride * (cells + SIDE)..][..cells + SIDE];
-                slot[..cells].copy_from_slice(&layer.row[..cells]);
-                slot[cells..].copy_from_slice(&layer.side);
-            }
-        }
-    }
-
-    /// The layer of hour k, made again from the next one that is kept.
-    fn layer(&mut self, k: usize) -> Layer {
-        let (hours, cells) = (self.unit.case.hours, self.unit.cells);
-        let mut layer = Layer::end();
-        let base = k.next_multiple_of(self.stride).min(hours);
-        if base < hours {
-            let slot = &self.work[base / self.stride * (cells + SIDE)..][..cells + SIDE];
-            layer.row[..cells].copy_from_slice(&slot[..cells]);
-            layer.side.copy_from_slice(&slot[cells..]);
-        }
-        for h in (k..base).rev() {
-            self.step(h, &mut layer);
-        }
-        layer
-    }
-
     /// The best output within the ramps, the lowest of those that earn it.
     fn across(&self, k: usize, i: usize, row: &[i64]) -> (i64, usize) {
-        let unit = &self.unit;
+        let unit = &self.layers.unit;
         if !unit.allowed(k, unit.low) {
             return (NONE, 0);
         }
@@ -211,11 +39,11 @@ impl<W: Window> Search<'_, W> {
 
     /// On-line in a lock that ends later than the next hour: its rows are made once.
     fn locked(&mut self, k: usize, i: usize, end: usize) -> (i64, usize) {
-        let cells = self.unit.cells;
+        let cells = self.layers.unit.cells;
         if self.until != end {
-            let mut row = self.layer(end).row;
+            let mut row = self.layers.layer(end).row;
             for h in (k + 1..end).rev() {
-                self.hold(h, &mut row[..cells]);
+                self.layers.hold(h, &mut row[..cells]);
                 self.locked[end - h - 1][..cells].copy_from_slice(&row[..cells]);
             }
             self.until = end;
@@ -226,22 +54,22 @@ impl<W: Window> Search<'_, W> {
     /// Worth and output of hour k in a state.
     fn choice(&mut self, k: usize, state: State) -> (i64, usize) {
         if let State::Run(i, j) = state {
-            let end = (k + j).min(self.unit.case.hours);
+            let end = (k + j).min(self.layers.unit.case.hours);
             if end > k + 1 {
                 return self.locked(k, i, end);
             }
         }
-        let layer = self.layer(k + 1);
+        let layer = self.layers.layer(k + 1);
         match state {
-            State::Off(d) => self.idle(k, d, &layer),
-            State::Rise(i) => self.rising(k, i, &layer),
-            State::Fall(i) => self.falling(k, i, &layer),
+            State::Off(d) => self.layers.idle(k, d, &layer),
+            State::Rise(i) => self.layers.rising(k, i, &layer),
+            State::Fall(i) => self.layers.falling(k, i, &layer),
             State::Run(i, j) => {
                 let on = self.across(k, i, &layer.row);
                 if i > 0 || j > 0 {
                     return on;
                 }
-                let stop = self.falling(k, 0, &layer);
+                let stop = self.layers.falling(k, 0, &layer);
                 if stop.0 < on.0 {
                     on
                 } else {
@@ -253,16 +81,15 @@ impl<W: Window> Search<'_, W> {
 
     /// The best list, into the outputs, and its profit; none where no list keeps every rule.
     fn plan(&mut self, outputs: &mut [u16]) -> Option<i64> {
-        self.back();
-        let mut state = self.unit.opening();
+        let mut state = self.layers.unit.opening();
         let (profit, first) = self.choice(0, state);
         if profit < NONE / 2 {
             return None;
         }
-        for (k, output) in outputs.iter_mut().enumerate().take(self.unit.case.hours) {
+        for (k, output) in outputs.iter_mut().enumerate().take(self.layers.unit.case.hours) {
             let p = if k == 0 { first } else { self.choice(k, state).1 };
             *output = p as u16;
-            state = self.unit.follow(state, p);
+            state = self.layers.unit.follow(state, p);
         }
         Some(profit)
     }
@@ -271,16 +98,6 @@ impl<W: Window> Search<'_, W> {
 /// The profit of the best list of an accepted case, which fills the outputs; none where no list keeps every rule.
 /// The working numbers hold anything after.
 pub fn best<W: Window>(case: &Case, work: &mut [i64], outputs: &mut [u16]) -> Option<i64> {
-    let unit = Unit::of(case);
-    let stride = case.hours.div_ceil(WORK / (unit.cells + SIDE));
-    let mut search = Search {
-        unit,
-        entries: [0; ENDS],
-        stride,
-        work: &mut work[..WORK],
-        window: W::new(),
-        locked: [[0; OUTPUTS]; LOCK],
-        until: 0,
-    };
-    search.plan(outputs)
+    let layers = Layers::<W>::of(case, work);
+    Search { layers, locked: [[0; OUTPUTS]; LOCK], until: 0 }.plan(outputs)
 }
