@@ -207,12 +207,18 @@ class StandardOutput(ToolTest):
         read, write = os.pipe()
         os.write(write, CASE_7[:10])
         started = subprocess.Popen(
-            [TOOL, "show", "-"], stdin=read, stdout=subprocess.PIPE, stderr=subprocess.PIPE, cwd=self.folder
+            [TOOL, "show", "-"],
+            stdin=read,
+            stdout=subprocess.PIPE,
+            stderr=subprocess.PIPE,
+            cwd=self.folder,
+            # a shell has what it runs in the background ignore interrupts
+            preexec_fn=lambda: signal.signal(signal.SIGINT, signal.SIG_DFL),
         )
         while _unread(read) and started.poll() is None:
             time.sleep(0.01)
         started.send_signal(signal.SIGINT)
-        printed, message = started.communicate()
+        printed, message = started.communicate(timeout=60)
         os.close(read)
         os.close(write)
         self.assertEqual((started.returncode, printed, message), (130, b"", b""))
