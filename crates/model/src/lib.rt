@@ -6,6 +6,7 @@
 ghost use mathlib.Core.Path.{_≡_};
 ghost use Prim.Native.Nat.{_+_, _-_, _<_, min, max};
 ghost use Rattle.model.specs.Limits.{words};
+ghost use Rattle.model.specs.Answers.{outcomeNumber};
 
 // The limits of a case, each named once (specs/Limits). Entries that a record has room for: outputs of a trajectory,
 // hours of a day.
@@ -160,6 +161,18 @@ pub struct Case {
 pub enum Outcome {
     Accepted,
     Refused(u8),
+}
+
+impl Outcome {
+    // The number of a refusal; 0 where there is none.
+    pub fn number(self) -> u8
+        ensures { λ r. ⌜ r ≡ outcomeNumber self ⌝ }
+    {
+        match self {
+            Outcome::Accepted => 0,
+            Outcome::Refused(number) => number,
+        }
+    }
 }
 
 // The answer of `read` and `admit`: beside a refusal the record is all zeros.
