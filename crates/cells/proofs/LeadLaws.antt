@@ -1,19 +1,20 @@
 -- The scan of a row with no test for none: the pick so far stands for the choice so far, where none is any number up to
--- -2^61. Assumes nothing.
+-- the threshold. Assumes nothing.
 use mathlib.Core.Path.{_≡_, refl}
 use mathlib.Core.Option.{Option, some}
 use mathlib.Core.Bool.{Bool, true, false, cond}
 use mathlib.Core.List.{List}
-use Prim.Native.Nat.{ℕ, suc, _+_, _-_, _≤_, _<_, _^_}
+use Prim.Native.Nat.{ℕ, suc, _+_, _-_, _≤_, _<_}
 use native.Mathlib.Omega.{arith}
 use lib.IntN.{ℤ, pos, natAbs, _+ℤ_}
 use lib.ListN.{getD}
 use lib.Signed.{ltZ, _≤ℤ_}
 use Rattle.laws.proofs.Signed.{linear, up, down}
 use Rattle.laws.proofs.Magnitude.{abs-parts}
+use Rattle.machine.specs.Bounds.{mostLine, mostOffer}
 use Rattle.machine.specs.Search.{Choice}
 use Rattle.machine.specs.Span.{nothing, pick, lone, span}
-use Rattle.window.specs.Rows.{sloped, half}
+use Rattle.window.specs.Rows.{sloped, threshold}
 use Rattle.window.proofs.DriftLaws.{Drifted, lost, kept, drifted-add}
 use Rattle.cells.specs.declared.Pick.{Pick}
 use Rattle.cells.specs.Picks.{pickOf, noPick, betterPick, Held, onLine}
@@ -24,8 +25,8 @@ pickAt p z = record { at = record { 0 = p }; worth = record { 0 = z } }
 
 -- pick k leads where c is chosen
 pub data Leads : Choice → Pick → Type 0 where
-  behind : (k : Pick) → k .worth .0 ≤ℤ half → Leads nothing k
-  leading : (q : ℕ) (v : ℤ) → natAbs v ≤ 2 ^ 43 → Leads (record { output = q; worth = some v }) (pickAt q v)
+  behind : (k : Pick) → k .worth .0 ≤ℤ threshold → Leads nothing k
+  leading : (q : ℕ) (v : ℤ) → natAbs v ≤ mostOffer → Leads (record { output = q; worth = some v }) (pickAt q v)
 
 pub leads-start : Leads nothing noPick
 leads-start = behind noPick (record { le = tt })
@@ -51,12 +52,12 @@ leads-step p (leading q v h) (kept y d) = go (ltZ v y)
     go true = leading p y d
     go false = leading q v h
 
-pub leads-none : {c : Choice} {k : Pick} → Leads c k → ltZ half (k .worth .0) ≡ false → noPick ≡ pickOf c
+pub leads-none : {c : Choice} {k : Pick} → Leads c k → ltZ threshold (k .worth .0) ≡ false → noPick ≡ pickOf c
 unfolding up down
 leads-none (behind k h) e = refl
 leads-none (leading q v h) e = absurd (omega (linear, e, abs-parts v))
 
-pub leads-some : {c : Choice} {k : Pick} → Leads c k → ltZ half (k .worth .0) ≡ true → k ≡ pickOf c
+pub leads-some : {c : Choice} {k : Pick} → Leads c k → ltZ threshold (k .worth .0) ≡ true → k ≡ pickOf c
 leads-some (behind k h) e = absurd (omega (linear, e, h))
 leads-some (leading q v h) e = refl
 
@@ -67,12 +68,12 @@ module _ (f : ℕ → Option ℤ) (xs : List ℤ) (lo a b : ℕ) (first slope : 
   scan-start p e = let d : p - a ≡ 0 = omega arith in rw d leads-start
 
   pub scan-step : (p : ℕ) (k : Pick) (g y : ℤ) → Held f xs lo a b → a ≤ p → p < b → g ≡ sloped first slope (p - a)
-      → natAbs g ≤ 2 ^ 37 → y ≡ g +ℤ getD xs (p - lo) (pos 0) → Leads (span (onLine f a first slope) a (p - a)) k
+      → natAbs g ≤ mostLine → y ≡ g +ℤ getD xs (p - lo) (pos 0) → Leads (span (onLine f a first slope) a (p - a)) k
       → Leads (span (onLine f a first slope) a (p + 1 - a)) (betterPick k (pickAt p y))
   unfolding span
   scan-step p k g y held ha hb eg small ey l =
       let n : p + 1 - a ≡ suc (p - a) = omega arith in
       let here : a + (p - a) ≡ p = omega arith in
       let d : Drifted (onLine f a first slope p) y =
-      rw (ey, held .at p ha hb, ← eg) (drifted-add g (omega arith) (held .size p ha hb)) in
+      rw (ey, held .at p ha hb, ← eg) (drifted-add g small (held .size p ha hb)) in
       rw (n, here) (leads-step p l d)

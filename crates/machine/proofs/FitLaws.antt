@@ -1,7 +1,7 @@
 -- The unit of a case within the limits fits, and the state in which its day opens is proper. Assumes nothing.
 use mathlib.Core.Path.{_≡_, refl}
 use mathlib.Core.Bool.{Bool, true, false, cond}
-use Prim.Native.Nat.{ℕ, suc, _+_, _-_, _≤_, _<_, _^_, min}
+use Prim.Native.Nat.{ℕ, suc, _+_, _-_, _≤_, _<_, min}
 use native.Mathlib.Decide.{decLt}
 use native.Mathlib.Omega.{arith}
 use borrow.Author.Tests.{eqb-false}
@@ -10,10 +10,12 @@ use lib.IntN.{pos, natAbs}
 use lib.ListN.{getD}
 use Rattle.laws.proofs.Magnitude.{abs--}
 use Rattle.model.specs.declared.Case.{Case}
+use Rattle.model.specs.Limits.{words}
 use Rattle.model.specs.Symbols.{high, low, UD, DD, F, last, price, p0, h}
 use Rattle.model.specs.Refusals.{refusalOf}
 use Rattle.model.proofs.LimitsLaws.{Limits, limits-of-refusalOf}
 use Rattle.model.proofs.SymbolsLaws.{hourly-suc}
+use Rattle.machine.specs.Bounds.{mostMargin}
 use Rattle.machine.specs.Moves.{idle, running, puAt, pdAt}
 use Rattle.machine.specs.Cases.{unitOf, marginsOf, chargesOf, termsOf, openingOf}
 use Rattle.machine.specs.Fit.{Fit, Fair}
@@ -48,11 +50,11 @@ module _ (c : Case) (lim : Limits c) where
   rise-pos = omega (arith, pu-at c lim 0 (lim .rises-pos), lim .rise-pos)
 
   -- margins, where prices are of 16 bits
-  module _ (prices : (k : ℕ) → getD (c .prices) k 0 < 65536) where
-    margin-le : (k : ℕ) → natAbs (getD (marginsOf c) k (pos 0)) ≤ 2 ^ 24
+  module _ (prices : (k : ℕ) → getD (c .prices) k 0 < words) where
+    margin-le : (k : ℕ) → natAbs (getD (marginsOf c) k (pos 0)) ≤ mostMargin
     margin-le k = go (decLt k (last c))
       where
-        go : Dec (k < last c) → natAbs (getD (marginsOf c) k (pos 0)) ≤ 2 ^ 24
+        go : Dec (k < last c) → natAbs (getD (marginsOf c) k (pos 0)) ≤ mostMargin
         go (yes l) =
             let size = abs-- (pos (price c (suc k))) (pos (F c)) in
             rw (margin-at c lim k l) (omega (arith, size, hourly-suc (c .prices) k, prices k, lim .variable-le))
@@ -107,7 +109,7 @@ module _ (c : Case) (lim : Limits c) where
 pub fit-of-limits : (c : Case) → refusalOf c ≡ 0 → Fit (unitOf c)
 fit-of-limits c e = fit c (limits-of-refusalOf c e)
 
-pub fair-of-limits : (c : Case) → refusalOf c ≡ 0 → ((k : ℕ) → getD (c .prices) k 0 < 65536) → (k : ℕ)
+pub fair-of-limits : (c : Case) → refusalOf c ≡ 0 → ((k : ℕ) → getD (c .prices) k 0 < words) → (k : ℕ)
     → Fair (termsOf c k)
 fair-of-limits c e prices = fair c (limits-of-refusalOf c e) prices
 

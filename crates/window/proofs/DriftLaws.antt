@@ -1,10 +1,10 @@
 -- A worth and the number that stands for it once a line was added with no test for none: none is any number up to
--- -2^61, an amount is itself. The largest of such numbers stands for the best worth, and settled with a line it is the
+-- the threshold, an amount is itself. The largest of such numbers stands for the best worth, and settled with a line it is the
 -- code again. Assumes nothing.
 use mathlib.Core.Path.{_≡_, refl}
 use mathlib.Core.Option.{Option, none, some}
 use mathlib.Core.Bool.{Bool, true, false, cond}
-use Prim.Native.Nat.{ℕ, zero, suc, _+_, _≤_, _<_, _^_}
+use Prim.Native.Nat.{ℕ, zero, suc, _+_, _≤_, _<_}
 use native.Mathlib.Omega.{arith}
 use lib.IntN.{ℤ, natAbs, _+ℤ_}
 use lib.Signed.{ltZ, _≤ℤ_, _<ℤ_}
@@ -12,25 +12,25 @@ use Rattle.laws.specs.Range.{larger, over}
 use Rattle.laws.proofs.RangeLaws.{larger-least, larger-of-ge, larger-of-le}
 use Rattle.laws.proofs.Signed.{linear, up, down, parts-+}
 use Rattle.laws.proofs.Magnitude.{abs-parts, abs-+}
+use Rattle.machine.specs.Bounds.{mostWorth, mostLine, mostOffer}
 use Rattle.machine.specs.Search.{ahead, add, Choice}
 use Rattle.machine.specs.Span.{pick, lone, span}
-use Rattle.machine.specs.Coded.{missing, coded}
-use Rattle.machine.specs.Coded.{Bounded, gone, amount}
+use Rattle.machine.specs.Coded.{missing, coded, Bounded, gone, amount}
 use Rattle.machine.proofs.Overs.{lone-worth}
-use Rattle.window.specs.Rows.{half, settled}
+use Rattle.window.specs.Rows.{threshold, settled}
 
 pub data Drifted : Option ℤ → ℤ → Type 0 where
-  lost : (z : ℤ) → z ≤ℤ half → Drifted none z
-  kept : (v : ℤ) → natAbs v ≤ 2 ^ 43 → Drifted (some v) v
+  lost : (z : ℤ) → z ≤ℤ threshold → Drifted none z
+  kept : (v : ℤ) → natAbs v ≤ mostOffer → Drifted (some v) v
 
 -- a line's amount is added
-pub drifted-add : {x : Option ℤ} (g : ℤ) → natAbs g ≤ 2 ^ 40 → Bounded (2 ^ 42) x → Drifted (add g x) (g +ℤ coded x)
+pub drifted-add : {x : Option ℤ} (g : ℤ) → natAbs g ≤ mostLine → Bounded mostWorth x → Drifted (add g x) (g +ℤ coded x)
 unfolding up down
 drifted-add g h gone = lost (g +ℤ missing) (omega (linear, parts-+ g missing, abs-parts g))
 drifted-add g h (amount {v} w) = kept (g +ℤ v) (omega (arith, abs-+ g v))
 
--- amounts are above -2^61
-above : (v : ℤ) → natAbs v ≤ 2 ^ 43 → half <ℤ v
+-- amounts are above the threshold
+above : (v : ℤ) → natAbs v ≤ mostOffer → threshold <ℤ v
 unfolding up down
 above v h = omega (linear, abs-parts v)
 
@@ -68,5 +68,5 @@ drifted-span f v a b (suc m) h =
 -- the code again
 pub drifted-settled : {x : Option ℤ} {z : ℤ} (g : ℤ) → Drifted x z → settled g z ≡ coded (add g x)
 unfolding settled up down
-drifted-settled g (lost z p) = let low : ltZ half z ≡ false = omega (linear, p) in simp low refl
-drifted-settled g (kept v h) = let high : ltZ half v ≡ true = omega (linear, abs-parts v) in simp high refl
+drifted-settled g (lost z p) = let low : ltZ threshold z ≡ false = omega (linear, p) in simp low refl
+drifted-settled g (kept v h) = let high : ltZ threshold v ≡ true = omega (linear, abs-parts v) in simp high refl

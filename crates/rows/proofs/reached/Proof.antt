@@ -4,13 +4,14 @@ use native.Mathlib.Omega.{arith}
 use mathlib.Core.Path.{refl, _∙_}
 use Prim.Native.Nat.{_*_, _≤_}
 use native.Mathlib.Nat.{mul-le-mul}
+use Rattle.model.specs.Limits.{mostHours, mostOutput}
 use Rattle.rows.proofs.reached.Statement.{statement}
 use Rattle.rows.proofs.reached.Tie as tie
 
 -- a day of ramps
-far : (s : tie.Start) → s .args .hours .0 * s .args .u .rampup .0 ≤ 48 * 400
+far : (s : tie.Start) → s .args .hours .0 * s .args .u .rampup .0 ≤ mostHours * mostOutput
 far s =
-    let h : s .args .hours .0 ≤ 48 = omega (arith, s .pre .1 .1, s .pre .0 .hours-le) in
+    let h : s .args .hours .0 ≤ mostHours = omega (arith, s .pre .1 .1, s .pre .0 .hours-le) in
     mul-le-mul h (s .pre .0 .rampup-le)
 
 cast-least : tie.Need-cast-least
