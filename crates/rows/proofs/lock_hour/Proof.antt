@@ -8,9 +8,6 @@ use Rattle.rows.proofs.Ends.{row-hour, across-at}
 use Rattle.rows.proofs.lock_hour.Statement.{statement}
 use Rattle.rows.proofs.lock_hour.Tie as tie
 
-terms-at-requires : tie.Need-terms-at-requires
-terms-at-requires c κs = search needs
-
 open-row-requires : tie.Need-open-row-requires
 open-row-requires c κs =
     let s = c .before .before .before in
@@ -36,4 +33,4 @@ returns c =
     (c .open-row .ensures after (suc j) x)))
 
 pub lock-hour-spec : {M : Type 1} → statement M
-lock-hour-spec = tie.close (tie.spec terms-at-requires open-row-requires returns)
+lock-hour-spec = tie.close (tie.spec (λ c κs. search needs) open-row-requires returns)
