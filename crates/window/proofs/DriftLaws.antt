@@ -1,6 +1,6 @@
--- A worth and the number that stands for it once a line was added with no test for none: none is any number up to
--- the threshold, an amount is itself. The largest of such numbers stands for the best worth, and settled with a line it is the
--- code again. Assumes nothing.
+-- A worth and the number that stands for it once a line was added with no test for none: none is any number up to the
+-- threshold, an amount is itself. The largest of such numbers stands for the best worth, and settled with a line it is
+-- the code again. Assumes nothing.
 use mathlib.Core.Path.{_≡_, refl}
 use mathlib.Core.Option.{Option, none, some}
 use mathlib.Core.Bool.{Bool, true, false, cond}
