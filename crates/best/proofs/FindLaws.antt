@@ -19,9 +19,9 @@ use Rattle.machine.specs.Coded.{missing, coded, Bounded, amount}
 use Rattle.machine.specs.Search.{maybe}
 use Rattle.machine.specs.Fit.{Fit, Fair}
 use Rattle.machine.specs.Cases.{unitOf, termsOf, openingOf}
-use Rattle.machine.proofs.CodedLaws.{low}
-use Rattle.machine.proofs.Sizes.{worth-size}
-use Rattle.machine.proofs.Bests.{worth-profit, worth-none, planAt-best, length-planAt}
+use Rattle.machine.proofs.Table.CodedLaws.{low}
+use Rattle.machine.proofs.Table.Sizes.{worth-size}
+use Rattle.machine.proofs.Bridge.Bests.{worth-profit, worth-none, planAt-best, length-planAt}
 use Rattle.cells.specs.Table.{Found}
 
 -- a worth of a day is above the code of none

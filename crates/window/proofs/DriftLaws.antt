@@ -16,7 +16,7 @@ use Rattle.machine.specs.Bounds.{mostWorth, mostLine, mostOffer}
 use Rattle.machine.specs.Search.{ahead, add, Choice}
 use Rattle.machine.specs.Span.{pick, lone, span}
 use Rattle.machine.specs.Coded.{missing, coded, Bounded, gone, amount}
-use Rattle.machine.proofs.Overs.{lone-worth}
+use Rattle.machine.proofs.Table.Overs.{lone-worth}
 use Rattle.window.specs.Rows.{threshold, settled}
 
 pub data Drifted : Option ℤ → ℤ → Type 0 where

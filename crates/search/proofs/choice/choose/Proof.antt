@@ -11,7 +11,7 @@ use Rattle.model.specs.Limits.{mostOutput}
 use Rattle.machine.specs.declared.Terms.{Terms}
 use Rattle.machine.specs.Search.{choiceAt}
 use Rattle.machine.specs.Moves.{dayOf, machine, worth, chosen}
-use Rattle.machine.proofs.Choices.{choice-chosen}
+use Rattle.machine.proofs.Table.Choices.{choice-chosen}
 use Rattle.cells.specs.Picks.{pickOf}
 use Rattle.cells.specs.Table.{entry, lockOf}
 use Rattle.layers.specs.Saved.{RowAt, SavedAt}

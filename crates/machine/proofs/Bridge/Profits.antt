@@ -20,7 +20,7 @@ use Rattle.model.proofs.Automaton.Hours.{on, rise}
 use Rattle.machine.specs.Moves.{charge, earn}
 use Rattle.machine.specs.Cases.{chargesOf, termsOf}
 use Rattle.machine.specs.Image.{profitFrom}
-use Rattle.machine.proofs.CasesLaws.{margin-at}
+use Rattle.machine.proofs.Bridge.CasesLaws.{margin-at}
 use Rattle.model.proofs.Automaton.Literals.{v-is, y-is, z-is}
 
 -- charges by the marks of two outputs, and by the outputs

@@ -21,8 +21,8 @@ use Rattle.machine.specs.Cases.{unitOf, termsOf, openingOf}
 use Rattle.model.specs.Automaton.{first}
 use Rattle.machine.specs.Image.{image, Good, profitFrom}
 use Rattle.model.proofs.Automaton.Keeping.{keeps-runs}
-use Rattle.machine.proofs.Listed.{runs-profit, runs-of-earned}
-use Rattle.machine.proofs.Profits.{profitFrom-profitOf}
+use Rattle.machine.proofs.Bridge.Listed.{runs-profit, runs-of-earned}
+use Rattle.machine.proofs.Bridge.Profits.{profitFrom-profitOf}
 
 module _ (c : Case) where
   image-first : image c (first c (p0 c)) ≡ openingOf c

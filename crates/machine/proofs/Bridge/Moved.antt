@@ -18,10 +18,11 @@ use Rattle.machine.specs.Cases.{unitOf}
 use Rattle.model.specs.Automaton.{St, off, up, run, down, Step, stay, start, start1, climb, reach, hold, leave}
 use Rattle.model.specs.Automaton.{leave1, sink, land}
 use Rattle.machine.specs.Image.{image, Good}
-use Rattle.machine.proofs.Sizes.{only-some}
-use Rattle.machine.proofs.Follows.{follow-stay, follow-start, follow-rise, follow-run, follow-leave, follow-fall}
-use Rattle.machine.proofs.Follows.{follow-ramp}
-use Rattle.machine.proofs.CasesLaws.{pu-at, pd-at}
+use Rattle.machine.proofs.Table.Sizes.{only-some}
+use Rattle.machine.proofs.Table.Follows.{follow-stay, follow-start, follow-rise, follow-run, follow-leave}
+use Rattle.machine.proofs.Table.Follows.{follow-fall}
+use Rattle.machine.proofs.Table.Follows.{follow-ramp}
+use Rattle.machine.proofs.Bridge.CasesLaws.{pu-at, pd-at}
 
 -- with output q, the automaton goes from s to a state whose image is x
 pub data Lands (c : Case) (q : ℕ) (s : St) (x : State) : Type 0 where

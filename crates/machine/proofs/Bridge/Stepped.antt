@@ -13,7 +13,7 @@ use Rattle.machine.specs.Cases.{unitOf}
 use Rattle.model.specs.Automaton.{St, off, up, run, down, Step, stay, start, start1, climb, reach, hold, leave}
 use Rattle.model.specs.Automaton.{leave1, sink, land}
 use Rattle.machine.specs.Image.{image, Good}
-use Rattle.machine.proofs.CasesLaws.{pu-at, pd-at}
+use Rattle.machine.proofs.Bridge.CasesLaws.{pu-at, pd-at}
 
 module _ (c : Case) (lim : Limits c) where
   pub step-move : (q : ℕ) (s t : St) → Good c s → Step c q s t → move (unitOf c) (image c s) q ≡ some (image c t)

@@ -18,11 +18,11 @@ use Rattle.machine.specs.Moves.{obeys, earn, output, move, closing, mach
 use Rattle.machine.specs.Cases.{unitOf, termsOf}
 use Rattle.model.specs.Automaton.{St, off, up, run, down, Runs, Final}
 use Rattle.machine.specs.Image.{image, Good, profitFrom}
-use Rattle.machine.proofs.Searched.{some-none}
-use Rattle.machine.proofs.Sizes.{only-some}
-use Rattle.machine.proofs.CasesLaws.{obeys-of-ordered, ordered-of-obeys}
-use Rattle.machine.proofs.Stepped.{step-move, good-step, step-output}
-use Rattle.machine.proofs.Moved.{Lands, lands, move-step}
+use Rattle.machine.proofs.Search.Searched.{some-none}
+use Rattle.machine.proofs.Table.Sizes.{only-some}
+use Rattle.machine.proofs.Bridge.CasesLaws.{obeys-of-ordered, ordered-of-obeys}
+use Rattle.machine.proofs.Bridge.Stepped.{step-move, good-step, step-output}
+use Rattle.machine.proofs.Bridge.Moved.{Lands, lands, move-step}
 
 -- what is added to is there
 unadd : (g : ℤ) (x : Option ℤ) (v : ℤ) → add g x ≡ some v → (w : ℤ) × (x ≡ some w)

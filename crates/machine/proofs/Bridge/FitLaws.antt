@@ -21,7 +21,7 @@ use Rattle.machine.specs.Cases.{unitOf, marginsOf, chargesOf, termsOf, o
 use Rattle.machine.specs.Fit.{Fit, Fair}
 use Rattle.machine.specs.Proper.{Proper}
 use Rattle.model.proofs.Automaton.Stages.{pu-le, pd-le, pd-lt}
-use Rattle.machine.proofs.CasesLaws.{pu-past, pd-past, pu-at, pd-at, margin-past, margin-at}
+use Rattle.machine.proofs.Bridge.CasesLaws.{pu-past, pd-past, pu-at, pd-at, margin-past, margin-at}
 
 module _ (c : Case) (lim : Limits c) where
   -- the trajectories at every place

@@ -21,11 +21,11 @@ use Rattle.machine.specs.Search.{maybe, outcome, value, plan, search, pl
 use Rattle.machine.specs.Order.{Answers}
 use Rattle.machine.specs.Moves.{obeys, move, machine, worth}
 use Rattle.machine.specs.Cases.{unitOf, termsOf, openingOf}
-use Rattle.machine.proofs.Searched.{some-none, plan-earns, searched}
-use Rattle.machine.proofs.Sizes.{only-some, move-within}
-use Rattle.machine.proofs.Values.{worth-zero, plan-zero}
-use Rattle.machine.proofs.FitLaws.{rise-le, fall-le}
-use Rattle.machine.proofs.Openings.{outcome-earned}
+use Rattle.machine.proofs.Search.Searched.{some-none, plan-earns, searched}
+use Rattle.machine.proofs.Table.Sizes.{only-some, move-within}
+use Rattle.machine.proofs.Search.Values.{worth-zero, plan-zero}
+use Rattle.machine.proofs.Bridge.FitLaws.{rise-le, fall-le}
+use Rattle.machine.proofs.Bridge.Openings.{outcome-earned}
 
 module _ (c : Case) (accepted : refusalOf c ≡ 0) where
   lim : Limits c
