@@ -2,10 +2,6 @@
 // Nothing outside the published limits is accepted: a file is refused by 1 to 8, a record by 2 to 8, and a writing
 // with too few bytes lent by 10. A refusal leaves the lent bytes as they are.
 mod entries;
-mod fields;
-mod numbers;
-mod pairs;
-mod sections;
 
 ghost use mathlib.Core.Path.{_≡_};
 ghost use Rattle.model.specs.Layout.{blank};
@@ -66,13 +62,13 @@ fn reading_of(number: u8, case: Case) -> Reading
 pub fn read(file: &[u8]) -> Reading
     ensures { λ r. ⌜ r ≡ readOf (now (file .entry)) ⌝ }
 {
-    if pairs::refusal1(file) {
+    if reader::pairs::refusal1(file) {
         return reading_of(1, blank());
     }
-    if pairs::refusal2_file(file) {
+    if reader::pairs::refusal2_file(file) {
         return reading_of(2, blank());
     }
-    let case = sections::case_of(file);
+    let case = reader::sections::case_of(file);
     reading_of(limits::refusal_of(case), case)
 }
 
@@ -97,10 +93,10 @@ pub fn write(case: Case, bytes: &mut [u8]) -> Written
     if refusal != 0 {
         return Written::Refused(refusal);
     }
-    let n = fields::file_length(case);
+    let n = writer::file_length(case);
     if bytes.len() < n {
         return Written::Refused(10);
     }
-    fields::put_case(case, bytes);
+    writer::put_case(case, bytes);
     Written::Bytes(n)
 }

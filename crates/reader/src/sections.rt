@@ -1,0 +1,143 @@
+// The sections of a case file. Each reader gets its own section, a part of the file that begins at the section's own
+// offset, and returns what it holds; entries past a count are zero (specs/Sections, model's specs/Layout).
+ghost use mathlib.Core.Path.{_≡_};
+ghost use mathlib.Core.Bool.{false};
+ghost use Prim.Native.Nat.{_+_, _*_, _≤_};
+ghost use lib.ListN.{length};
+ghost use Rattle.model.specs.Layout.{numberAt, padded, noOutput, caseOf};
+ghost use Rattle.model.specs.Refusals.{refusal1, refusal2File};
+ghost use Rattle.reader.specs.Sections.{trajectoryOf, dayOf, assembled};
+use crate::numbers::long;
+use crate::numbers::word;
+use crate::pairs::hour_count;
+use crate::pairs::section;
+use crate::pairs::stage_count;
+use model::Case;
+use model::HOURS;
+use model::Hour;
+use model::Output;
+use model::STAGES;
+
+// The outputs of a trajectory, and how many count.
+pub(crate) struct Trajectory {
+    outputs: [Output; STAGES],
+    count: usize,
+}
+
+// The prices and order bytes of a day, and how many count.
+pub(crate) struct Day {
+    prices: [u16; HOURS],
+    orders: [u8; HOURS],
+    count: usize,
+}
+
+// The first n outputs of a trajectory's section.
+fn read_stages(part: &[u8], n: usize) -> [Output; STAGES]
+    requires { ⌜ (n ≤ 8) × (2 * n ≤ length (now part)) ⌝ }
+    ensures { λ r. ⌜ r ≡ padded noOutput (λ i. record { 0 = numberAt (now (part .entry)) (2 * i) 2 }) n 8 ⌝ }
+{
+    let mut outputs = [Output(0); STAGES];
+    let mut i = 0;
+    while i < n {
+        outputs[i] = Output(word(part, 2 * i));
+        i += 1;
+    }
+    outputs
+}
+
+// The first n prices of an hours section.
+fn read_prices(part: &[u8], n: usize) -> [u16; HOURS]
+    requires { ⌜ (n ≤ 48) × (3 * n ≤ length (now part)) ⌝ }
+    ensures { λ r. ⌜ r ≡ padded 0 (λ i. numberAt (now (part .entry)) (3 * i) 2) n 48 ⌝ }
+{
+    let mut prices = [0u16; HOURS];
+    let mut i = 0;
+    while i < n {
+        prices[i] = word(part, 3 * i);
+        i += 1;
+    }
+    prices
+}
+
+// The first n order bytes of an hours section.
+fn read_orders(part: &[u8], n: usize) -> [u8; HOURS]
+    requires { ⌜ (n ≤ 48) × (3 * n ≤ length (now part)) ⌝ }
+    ensures { λ r. ⌜ r ≡ padded 0 (λ i. numberAt (now (part .entry)) (3 * i + 2) 1) n 48 ⌝ }
+{
+    let mut orders = [0u8; HOURS];
+    let mut i = 0;
+    while i < n {
+        orders[i] = part[3 * i + 2];
+        i += 1;
+    }
+    orders
+}
+
+// A trajectory's section.
+fn read_trajectory(part: &[u8]) -> Trajectory
+    requires { ⌜ length (now part) ≤ 16 ⌝ }
+    ensures { λ r. ⌜ r ≡ trajectoryOf (now (part .entry)) ⌝ }
+{
+    let count = stage_count(part.len());
+    Trajectory {
+        outputs: read_stages(part, count),
+        count,
+    }
+}
+
+// The hours section.
+fn read_day(part: &[u8]) -> Day
+    requires { ⌜ length (now part) ≤ 144 ⌝ }
+    ensures { λ r. ⌜ r ≡ dayOf (now (part .entry)) ⌝ }
+{
+    let count = hour_count(part.len());
+    Day {
+        prices: read_prices(part, count),
+        orders: read_orders(part, count),
+        count,
+    }
+}
+
+// The unit section, with what the other sections hold.
+fn read_unit(part: &[u8], rise: Trajectory, fall: Trajectory, day: Day) -> Case
+    requires { ⌜ length (now part) ≡ 32 ⌝ }
+    ensures { λ r. ⌜ r ≡ assembled (now (part .entry)) rise fall day ⌝ }
+{
+    let rises = rise.outputs;
+    let falls = fall.outputs;
+    let prices = day.prices;
+    let orders = day.orders;
+    Case {
+        capacity: Output(word(part, 0)),
+        minimum: Output(word(part, 2)),
+        rampup: Output(word(part, 4)),
+        rampdown: Output(word(part, 6)),
+        minup: Hour(word(part, 8)),
+        mindown: Hour(word(part, 10)),
+        variable: long(part, 12),
+        fixed: long(part, 16),
+        startcost: long(part, 20),
+        stopcost: long(part, 24),
+        initial: Output(word(part, 28)),
+        elapsed: Hour(word(part, 30)),
+        rise: rises,
+        fall: falls,
+        prices: prices,
+        orders: orders,
+        rises: rise.count,
+        falls: fall.count,
+        hours: day.count,
+    }
+}
+
+// The case of a file whose sections follow one another and have lengths that fit.
+pub fn case_of(file: &[u8]) -> Case
+    requires { ⌜ refusal1 (now file) ≡ false ⌝ }
+    requires { ⌜ refusal2File (now file) ≡ false ⌝ }
+    ensures { λ r. ⌜ r ≡ caseOf (now (file .entry)) ⌝ }
+{
+    let rise = read_trajectory(section(file, 1));
+    let fall = read_trajectory(section(file, 2));
+    let day = read_day(section(file, 3));
+    read_unit(section(file, 0), rise, fall, day)
+}

@@ -1,0 +1,51 @@
+-- `writer::put_unit` meets its contract. Each two fields stand where the two before end. Assumes nothing.
+use borrow.Author.Needs.{needs}
+use Rattle.model.proofs.SetsLaws.{unit-written}
+use Rattle.writer.proofs.put_unit.Statement.{statement}
+use Rattle.writer.proofs.put_unit.Tie as tie
+
+put-pair-requires : tie.Need-put-pair-requires
+put-pair-requires c κs = search needs
+
+put-pair-requires-2 : tie.Need-put-pair-requires-2
+put-pair-requires-2 c κs = search needs
+
+put-pair-requires-3 : tie.Need-put-pair-requires-3
+put-pair-requires-3 c κs = search needs
+
+put-longs-requires : tie.Need-put-longs-requires
+put-longs-requires c κs = search needs
+
+put-longs-requires-2 : tie.Need-put-longs-requires-2
+put-longs-requires-2 c κs = search needs
+
+put-pair-requires-4 : tie.Need-put-pair-requires-4
+put-pair-requires-4 c κs = search needs
+
+same-length : tie.Need-same-length
+same-length c = search needs
+
+returns : tie.Need-returns
+returns c =
+    let six = c .before .before in
+    let five = six .before .before .before .before in
+    let four = five .before .before .before .before in
+    let three = four .before .before .before .before in
+    let two = three .before .before .before .before in
+    let one = two .before .before .before .before in
+    let args = one .before .before .before .args in
+    unit-written (args .case) (args .out .now) (one .put-pair .ensures) (two .put-pair2 .ensures)
+    (three .put-pair3 .ensures) (four .put-longs .ensures) (five .put-longs2 .ensures) (six .put-pair4 .ensures)
+
+pub put-unit-spec : {M : Type 1} → statement M
+put-unit-spec =
+    tie.close
+    (tie.spec
+    put-pair-requires
+    put-pair-requires-2
+    put-pair-requires-3
+    put-longs-requires
+    put-longs-requires-2
+    put-pair-requires-4
+    same-length
+    returns)
