@@ -2,8 +2,9 @@
 ghost use mathlib.Core.Path.{_≡_};
 ghost use Prim.Native.Nat.{_≤_};
 ghost use lib.ListN.{getD};
+ghost use Rattle.model.specs.Limits.{mostStages, mostHours};
 ghost use Rattle.model.specs.Layout.{padded, noOutput, zeroed};
-ghost use Rattle.limits.specs.Counts.{Counted};
+ghost use Rattle.model.specs.Refusals.{refusalOf};
 use model::Case;
 use model::HOURS;
 use model::Output;
@@ -11,8 +12,8 @@ use model::STAGES;
 
 // The first n outputs of a trajectory, and zero past them.
 fn first_outputs(outputs: [Output; STAGES], n: usize) -> [Output; STAGES]
-    requires { ⌜ n ≤ 8 ⌝ }
-    ensures { λ r. ⌜ r ≡ padded noOutput (λ i. getD outputs i noOutput) n 8 ⌝ }
+    requires { ⌜ n ≤ mostStages ⌝ }
+    ensures { λ r. ⌜ r ≡ padded noOutput (λ i. getD outputs i noOutput) n mostStages ⌝ }
 {
     let mut first = [Output(0); STAGES];
     let mut i = 0;
@@ -26,8 +27,8 @@ fn first_outputs(outputs: [Output; STAGES], n: usize) -> [Output; STAGES]
 
 // The first n prices, and zero past them.
 fn first_prices(prices: [u16; HOURS], n: usize) -> [u16; HOURS]
-    requires { ⌜ n ≤ 48 ⌝ }
-    ensures { λ r. ⌜ r ≡ padded 0 (λ i. getD prices i 0) n 48 ⌝ }
+    requires { ⌜ n ≤ mostHours ⌝ }
+    ensures { λ r. ⌜ r ≡ padded 0 (λ i. getD prices i 0) n mostHours ⌝ }
 {
     let mut first = [0u16; HOURS];
     let mut i = 0;
@@ -40,8 +41,8 @@ fn first_prices(prices: [u16; HOURS], n: usize) -> [u16; HOURS]
 
 // The first n order bytes, and zero past them.
 fn first_orders(orders: [u8; HOURS], n: usize) -> [u8; HOURS]
-    requires { ⌜ n ≤ 48 ⌝ }
-    ensures { λ r. ⌜ r ≡ padded 0 (λ i. getD orders i 0) n 48 ⌝ }
+    requires { ⌜ n ≤ mostHours ⌝ }
+    ensures { λ r. ⌜ r ≡ padded 0 (λ i. getD orders i 0) n mostHours ⌝ }
 {
     let mut first = [0u8; HOURS];
     let mut i = 0;
@@ -52,9 +53,9 @@ fn first_orders(orders: [u8; HOURS], n: usize) -> [u8; HOURS]
     first
 }
 
-// The record, whose counts are within the limits, with the entries past them zero.
+// The record, within the limits, with the entries past its counts zero.
 pub(crate) fn zeroed(case: Case) -> Case
-    requires { ⌜ Counted case ⌝ }
+    requires { ⌜ refusalOf case ≡ 0 ⌝ }
     ensures { λ r. ⌜ r ≡ zeroed case ⌝ }
 {
     let rise = case.rise;

@@ -1,2 +1,2 @@
 -- Definitions that the contracts of the crate's own functions cite.
-pub mod Counts
+pub mod Steps

@@ -1,14 +1,13 @@
 // The refusals of a record, 2 to 8: one test for each number, and the first that applies (model's specs/Refusals).
-ghost use mathlib.Core.Bool.{cond};
+ghost use mathlib.Core.Bool.{false, cond};
 ghost use mathlib.Core.Path.{_≡_};
 ghost use Prim.Native.Nat.{suc, _≤_, _<_};
-ghost use lib.Dec.{leb, ltb};
+ghost use lib.Dec.{leb};
 ghost use Rattle.model.specs.Limits.{mostStages, mostHours, mostOrder};
 ghost use Rattle.model.specs.Symbols.{every, stage, hourly};
 ghost use Rattle.model.specs.Refusals.{within, refusal2, refusal3, refusal4, refusal5, refusal6, refusal7, refusal8};
-ghost use Rattle.model.specs.Refusals.{refusalOf};
-ghost use Rattle.model.specs.Refusals.{climbs, descends};
-ghost use Rattle.limits.specs.Counts.{Counted};
+ghost use Rattle.model.specs.Refusals.{climbs, descends, refusalOf};
+ghost use Rattle.limits.specs.Steps.{stepped};
 use model::Case;
 use model::HOURS;
 use model::MOST_CHARGE;
@@ -67,65 +66,56 @@ fn refusal5(case: Case) -> bool
     !((case.variable <= MOST_VARIABLE) & charges)
 }
 
-// Whether each of the first outputs is below the next, over `steps` steps.
-fn rises(outputs: [Output; STAGES], steps: usize) -> bool
+// One test where `up` is true, and else the other.
+fn way(up: bool, rising: bool, falling: bool) -> bool
+    ensures { λ r. ⌜ r ≡ cond up rising falling ⌝ }
+{
+    if up { rising } else { falling }
+}
+
+// Whether each of the first outputs is below the next, or above it, over `steps` steps.
+fn strict(outputs: [Output; STAGES], steps: usize, up: bool) -> bool
     requires { ⌜ steps < mostStages ⌝ }
-    ensures { λ r. ⌜ r ≡ every (λ i. ltb (stage outputs i) (stage outputs (suc i))) steps ⌝ }
+    ensures { λ r. ⌜ r ≡ every (λ i. stepped up (stage outputs i) (stage outputs (suc i))) steps ⌝ }
 {
     let mut so = true;
     let mut i = 0;
     while i < steps {
         let a = outputs[i];
         let b = outputs[i + 1];
-        so = so & (a.0 < b.0);
+        so = so & way(up, a.0 < b.0, b.0 < a.0);
         i += 1;
     }
     so
 }
 
-// Whether each of the first outputs is above the next, over `steps` steps.
-fn falls(outputs: [Output; STAGES], steps: usize) -> bool
-    requires { ⌜ steps < mostStages ⌝ }
-    ensures { λ r. ⌜ r ≡ every (λ i. ltb (stage outputs (suc i)) (stage outputs i)) steps ⌝ }
-{
-    let mut so = true;
-    let mut i = 0;
-    while i < steps {
-        let a = outputs[i];
-        let b = outputs[i + 1];
-        so = so & (b.0 < a.0);
-        i += 1;
-    }
-    so
-}
-
-// The start-up trajectory, with a count within its limits, rises strictly from 1 or more to the minimum output.
+// The start-up trajectory, of a count that 2 does not refuse, rises strictly from 1 or more to the minimum output.
 fn climbs(case: Case) -> bool
-    requires { ⌜ Counted case ⌝ }
+    requires { ⌜ refusal2 case ≡ false ⌝ }
     ensures { λ r. ⌜ r ≡ climbs case ⌝ }
 {
     let rise = case.rise;
     let steps = case.rises - 1;
     let first = rise[0];
     let last = rise[steps];
-    (1 <= first.0) & (rises(rise, steps) & (last.0 == case.minimum.0))
+    (1 <= first.0) & (strict(rise, steps, true) & (last.0 == case.minimum.0))
 }
 
-// The shut-down trajectory, with a count within its limits, falls strictly from the minimum output to 1 or more.
+// The shut-down trajectory, of a count that 2 does not refuse, falls strictly from the minimum output to 1 or more.
 fn descends(case: Case) -> bool
-    requires { ⌜ Counted case ⌝ }
+    requires { ⌜ refusal2 case ≡ false ⌝ }
     ensures { λ r. ⌜ r ≡ descends case ⌝ }
 {
     let fall = case.fall;
     let steps = case.falls - 1;
     let first = fall[0];
     let last = fall[steps];
-    (first.0 == case.minimum.0) & (falls(fall, steps) & (1 <= last.0))
+    (first.0 == case.minimum.0) & (strict(fall, steps, false) & (1 <= last.0))
 }
 
 // The trajectories.
 fn refusal6(case: Case) -> bool
-    requires { ⌜ Counted case ⌝ }
+    requires { ⌜ refusal2 case ≡ false ⌝ }
     ensures { λ r. ⌜ r ≡ refusal6 case ⌝ }
 {
     !(climbs(case) & descends(case))
@@ -158,7 +148,7 @@ fn ordered(orders: [u8; HOURS], n: usize) -> bool
 
 // The order bytes of the day.
 fn refusal8(case: Case) -> bool
-    requires { ⌜ Counted case ⌝ }
+    requires { ⌜ refusal2 case ≡ false ⌝ }
     ensures { λ r. ⌜ r ≡ refusal8 case ⌝ }
 {
     let orders = case.orders;

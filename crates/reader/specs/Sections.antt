@@ -3,26 +3,37 @@ use mathlib.Core.List.{List}
 use Prim.Native.Nat.{ℕ, _+_, _*_, _/_}
 use lib.ListN.{length}
 use Rattle.model.specs.declared.Case.{Case}
-use Rattle.model.specs.Limits.{mostStages, mostHours}
+use Rattle.model.specs.declared.Output.{Output}
+use Rattle.model.specs.Limits.{mostStages, mostHours, stageWidth, hourWidth}
 use Rattle.model.specs.Layout.{numberAt, padded, noOutput}
 use Rattle.reader.specs.declared.sections.Trajectory.{Trajectory}
 use Rattle.reader.specs.declared.sections.Day.{Day}
 
--- a trajectory: entries of 2 bytes
+-- entry i of a trajectory; the price and the order byte of entry i of the hours, i from 0
+abbrev pub stageAt : List ℕ → ℕ → Output
+stageAt part i = record { 0 = numberAt part (stageWidth * i) 2 }
+
+abbrev pub priceAt : List ℕ → ℕ → ℕ
+priceAt part i = numberAt part (hourWidth * i) 2
+
+abbrev pub orderAt : List ℕ → ℕ → ℕ
+orderAt part i = numberAt part (hourWidth * i + 2) 1
+
+-- a trajectory: its outputs, and how many count
 unfoldable pub trajectoryOf : List ℕ → Trajectory
 trajectoryOf part =
     record {
-      outputs = padded noOutput (λ i. record { 0 = numberAt part (2 * i) 2 }) (length part / 2) mostStages;
-      count = length part / 2;
+      outputs = padded noOutput (stageAt part) (length part / stageWidth) mostStages;
+      count = length part / stageWidth;
     }
 
--- the hours: entries of 3 bytes
+-- the hours: their prices, their order bytes, and how many count
 unfoldable pub dayOf : List ℕ → Day
 dayOf part =
     record {
-      prices = padded 0 (λ i. numberAt part (3 * i) 2) (length part / 3) mostHours;
-      orders = padded 0 (λ i. numberAt part (3 * i + 2) 1) (length part / 3) mostHours;
-      count = length part / 3;
+      prices = padded 0 (priceAt part) (length part / hourWidth) mostHours;
+      orders = padded 0 (orderAt part) (length part / hourWidth) mostHours;
+      count = length part / hourWidth;
     }
 
 -- the unit, with two trajectories and a day

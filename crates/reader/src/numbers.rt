@@ -3,6 +3,7 @@ ghost use mathlib.Core.Path.{_≡_};
 ghost use Prim.Native.Nat.{_+_, _≤_, _<_};
 ghost use lib.ListN.{length};
 ghost use Rattle.model.specs.Layout.{numberAt};
+use model::WORDS;
 
 // A byte at the width of a 16-bit number.
 fn wide(x: u8) -> u16
@@ -24,5 +25,5 @@ pub(crate) fn long(part: &[u8], at: usize) -> u32
     requires { ⌜ at + 4 ≤ length (now part) ⌝ }
     ensures { λ r. ⌜ r ≡ numberAt (now (part .entry)) at 4 ⌝ }
 {
-    word(part, at) as u32 + word(part, at + 2) as u32 * 65536
+    word(part, at) as u32 + word(part, at + 2) as u32 * WORDS
 }

@@ -2,20 +2,21 @@
 // offset, and returns what it holds; entries past a count are zero (specs/Sections, model's specs/Layout).
 ghost use mathlib.Core.Path.{_≡_};
 ghost use mathlib.Core.Bool.{false};
-ghost use Prim.Native.Nat.{_+_, _*_, _≤_};
+ghost use Prim.Native.Nat.{_*_, _≤_};
 ghost use lib.ListN.{length};
-ghost use Rattle.model.specs.Layout.{numberAt, padded, noOutput, caseOf};
+ghost use Rattle.model.specs.Limits.{mostStages, mostHours, unitLength, stageWidth, hourWidth};
+ghost use Rattle.model.specs.Layout.{padded, noOutput, caseOf};
 ghost use Rattle.model.specs.Refusals.{refusal1, refusal2File};
-ghost use Rattle.reader.specs.Sections.{trajectoryOf, dayOf, assembled};
+ghost use Rattle.reader.specs.Sections.{stageAt, priceAt, orderAt, trajectoryOf, dayOf, assembled};
 use crate::numbers::long;
 use crate::numbers::word;
-use crate::pairs::hour_count;
 use crate::pairs::section;
-use crate::pairs::stage_count;
 use model::Case;
+use model::HOUR_BYTES;
 use model::HOURS;
 use model::Hour;
 use model::Output;
+use model::STAGE_BYTES;
 use model::STAGES;
 
 // The outputs of a trajectory, and how many count.
@@ -33,13 +34,13 @@ pub(crate) struct Day {
 
 // The first n outputs of a trajectory's section.
 fn read_stages(part: &[u8], n: usize) -> [Output; STAGES]
-    requires { ⌜ (n ≤ 8) × (2 * n ≤ length (now part)) ⌝ }
-    ensures { λ r. ⌜ r ≡ padded noOutput (λ i. record { 0 = numberAt (now (part .entry)) (2 * i) 2 }) n 8 ⌝ }
+    requires { ⌜ (n ≤ mostStages) × (stageWidth * n ≤ length (now part)) ⌝ }
+    ensures { λ r. ⌜ r ≡ padded noOutput (stageAt (now (part .entry))) n mostStages ⌝ }
 {
     let mut outputs = [Output(0); STAGES];
     let mut i = 0;
     while i < n {
-        outputs[i] = Output(word(part, 2 * i));
+        outputs[i] = Output(word(part, STAGE_BYTES * i));
         i += 1;
     }
     outputs
@@ -47,13 +48,13 @@ fn read_stages(part: &[u8], n: usize) -> [Output; STAGES]
 
 // The first n prices of an hours section.
 fn read_prices(part: &[u8], n: usize) -> [u16; HOURS]
-    requires { ⌜ (n ≤ 48) × (3 * n ≤ length (now part)) ⌝ }
-    ensures { λ r. ⌜ r ≡ padded 0 (λ i. numberAt (now (part .entry)) (3 * i) 2) n 48 ⌝ }
+    requires { ⌜ (n ≤ mostHours) × (hourWidth * n ≤ length (now part)) ⌝ }
+    ensures { λ r. ⌜ r ≡ padded 0 (priceAt (now (part .entry))) n mostHours ⌝ }
 {
     let mut prices = [0u16; HOURS];
     let mut i = 0;
     while i < n {
-        prices[i] = word(part, 3 * i);
+        prices[i] = word(part, HOUR_BYTES * i);
         i += 1;
     }
     prices
@@ -61,13 +62,13 @@ fn read_prices(part: &[u8], n: usize) -> [u16; HOURS]
 
 // The first n order bytes of an hours section.
 fn read_orders(part: &[u8], n: usize) -> [u8; HOURS]
-    requires { ⌜ (n ≤ 48) × (3 * n ≤ length (now part)) ⌝ }
-    ensures { λ r. ⌜ r ≡ padded 0 (λ i. numberAt (now (part .entry)) (3 * i + 2) 1) n 48 ⌝ }
+    requires { ⌜ (n ≤ mostHours) × (hourWidth * n ≤ length (now part)) ⌝ }
+    ensures { λ r. ⌜ r ≡ padded 0 (orderAt (now (part .entry))) n mostHours ⌝ }
 {
     let mut orders = [0u8; HOURS];
     let mut i = 0;
     while i < n {
-        orders[i] = part[3 * i + 2];
+        orders[i] = part[HOUR_BYTES * i + 2];
         i += 1;
     }
     orders
@@ -75,10 +76,10 @@ fn read_orders(part: &[u8], n: usize) -> [u8; HOURS]
 
 // A trajectory's section.
 fn read_trajectory(part: &[u8]) -> Trajectory
-    requires { ⌜ length (now part) ≤ 16 ⌝ }
+    requires { ⌜ length (now part) ≤ stageWidth * mostStages ⌝ }
     ensures { λ r. ⌜ r ≡ trajectoryOf (now (part .entry)) ⌝ }
 {
-    let count = stage_count(part.len());
+    let count = part.len() / STAGE_BYTES;
     Trajectory {
         outputs: read_stages(part, count),
         count,
@@ -87,10 +88,10 @@ fn read_trajectory(part: &[u8]) -> Trajectory
 
 // The hours section.
 fn read_day(part: &[u8]) -> Day
-    requires { ⌜ length (now part) ≤ 144 ⌝ }
+    requires { ⌜ length (now part) ≤ hourWidth * mostHours ⌝ }
     ensures { λ r. ⌜ r ≡ dayOf (now (part .entry)) ⌝ }
 {
-    let count = hour_count(part.len());
+    let count = part.len() / HOUR_BYTES;
     Day {
         prices: read_prices(part, count),
         orders: read_orders(part, count),
@@ -100,7 +101,7 @@ fn read_day(part: &[u8]) -> Day
 
 // The unit section, with what the other sections hold.
 fn read_unit(part: &[u8], rise: Trajectory, fall: Trajectory, day: Day) -> Case
-    requires { ⌜ length (now part) ≡ 32 ⌝ }
+    requires { ⌜ length (now part) ≡ unitLength ⌝ }
     ensures { λ r. ⌜ r ≡ assembled (now (part .entry)) rise fall day ⌝ }
 {
     let rises = rise.outputs;

@@ -4,6 +4,7 @@ ghost use Prim.Native.Nat.{_+_, _≤_};
 ghost use lib.ListN.{length};
 ghost use lib.Seq.{sets};
 ghost use Rattle.model.specs.Layout.{bytes};
+use model::WORDS;
 
 // Writes a 16-bit number at an offset.
 pub(crate) fn put_word(out: &mut [u8], at: usize, x: u16)
@@ -19,6 +20,6 @@ pub(crate) fn put_long(out: &mut [u8], at: usize, x: u32)
     requires { ⌜ at + 4 ≤ length (now out) ⌝ }
     ensures { λ _. ⌜ now (out .exit) ≡ sets (now (out .entry)) at (bytes 4 x) ⌝ }
 {
-    put_word(out, at, (x % 65536) as u16);
-    put_word(out, at + 2, (x / 65536) as u16);
+    put_word(out, at, (x % WORDS) as u16);
+    put_word(out, at + 2, (x / WORDS) as u16);
 }

@@ -4,7 +4,6 @@ use mathlib.Core.Path.{_≡_, sym, _∙_}
 use mathlib.Core.Bool.{false}
 use mathlib.Core.List.{List}
 use Prim.Native.Nat.{ℕ}
-use borrow.Author.Needs.{needs}
 use Rattle.model.specs.Refusals.{refusal1, refusal2File}
 use Rattle.model.proofs.PartedLaws.{refusal1-long}
 use Rattle.model.proofs.CodecLaws.{readOf-one, readOf-two, readOf-case}
@@ -25,13 +24,13 @@ off2 : (c : tie.Else2) → refusal2File (file2 c) ≡ false
 off2 c = sym (c .before .refusal2-file .ensures) ∙ c .if2 .left
 
 refusal1-requires : tie.Need-refusal1-requires
-refusal1-requires c κs = search needs
+refusal1-requires c κs = tt
 
 blank-requires : tie.Need-blank-requires
-blank-requires c κs = search needs
+blank-requires c κs = tt
 
 reading-of-requires : tie.Need-reading-of-requires
-reading-of-requires c κs = search needs
+reading-of-requires c κs = tt
 
 returns : tie.Need-returns
 returns c =
@@ -44,10 +43,10 @@ refusal2-file-requires : tie.Need-refusal2-file-requires
 refusal2-file-requires c κs = refusal1-long (file1 c) (off1 c)
 
 blank-requires-2 : tie.Need-blank-requires-2
-blank-requires-2 c κs = search needs
+blank-requires-2 c κs = tt
 
 reading-of-requires-2 : tie.Need-reading-of-requires-2
-reading-of-requires-2 c κs = search needs
+reading-of-requires-2 c κs = tt
 
 returns-2 : tie.Need-returns-2
 returns-2 c =
@@ -60,10 +59,10 @@ case-of-requires : tie.Need-case-of-requires
 case-of-requires c κs = (off1 (c .before .before), off2 c)
 
 refusal-of-requires : tie.Need-refusal-of-requires
-refusal-of-requires c κs = search needs
+refusal-of-requires c κs = tt
 
 reading-of-requires-3 : tie.Need-reading-of-requires-3
-reading-of-requires-3 c κs = search needs
+reading-of-requires-3 c κs = tt
 
 returns-3 : tie.Need-returns-3
 returns-3 c =

@@ -1,5 +1,4 @@
 -- `codec::reading_of` meets its contract. The number is 0, or it is not. Assumes nothing.
-use borrow.Author.Needs.{needs}
 use Rattle.model.proofs.CodecLaws.{readingOf-accepted, readingOf-refused}
 use Rattle.codec.proofs.reading_of.Statement.{statement}
 use Rattle.codec.proofs.reading_of.Tie as tie
@@ -8,7 +7,7 @@ returns : tie.Need-returns
 returns c = let s = c .before in readingOf-accepted (s .args .number) (s .args .case) (c .if1 .taken)
 
 blank-requires : tie.Need-blank-requires
-blank-requires c κs = search needs
+blank-requires c κs = tt
 
 returns-2 : tie.Need-returns-2
 returns-2 c =

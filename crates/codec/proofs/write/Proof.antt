@@ -10,7 +10,6 @@ use Rattle.model.specs.Layout.{bytesOf}
 use Rattle.model.specs.Refusals.{refusalOf}
 use Rattle.model.proofs.WrittenLaws.{length-bytesOf}
 use Rattle.model.proofs.CodecLaws.{writeOf-refused, writeOf-short, writeOf-done}
-use Rattle.limits.proofs.CountsLaws.{refusalOf→counted}
 use Rattle.codec.proofs.write.Statement.{statement}
 use Rattle.codec.proofs.write.Tie as tie
 
@@ -26,7 +25,7 @@ room : (c : tie.Else2) → length (bytesOf (start c .args .case)) ≤ length (st
 room c = omega (arith, c .before .file-length .ensures)
 
 refusal-of-requires : tie.Need-refusal-of-requires
-refusal-of-requires c κs = search needs
+refusal-of-requires c κs = tt
 
 returns : tie.Need-returns
 returns c =
@@ -36,7 +35,7 @@ returns c =
     (ap Refused number ∙ ap (λ w. w .answer) e, ap (λ w. w .lent) e)
 
 file-length-requires : tie.Need-file-length-requires
-file-length-requires c κs = refusalOf→counted (c .before .before .before .args .case) (within c)
+file-length-requires c κs = within c
 
 returns-2 : tie.Need-returns-2
 returns-2 c =
@@ -49,8 +48,7 @@ returns-2 c =
 put-case-requires : tie.Need-put-case-requires
 put-case-requires c κs =
     let here = c .before in
-    let case = start here .args .case in
-    (refusalOf→counted case (within (here .before .before)), omega (arith, room here, length-bytesOf case))
+    (within (here .before .before), omega (arith, room here, length-bytesOf (start here .args .case)))
 
 same-length : tie.Need-same-length
 same-length c = search needs

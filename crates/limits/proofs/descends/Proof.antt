@@ -1,34 +1,40 @@
 -- `limits::descends` meets its contract. The count is within the array, since 2 does not apply; entries are
 -- counted from 1 in the definition. Assumes nothing.
-use borrow.Author.Needs.{needs}
+use native.Mathlib.Omega.{arith}
+use Rattle.model.specs.Limits.{mostStages}
 use Rattle.model.specs.Refusals.{descends}
+use Rattle.model.proofs.LimitsLaws.{Between, counts}
 use Rattle.model.proofs.RefusalsLaws.{stage-here, stage-last}
 use Rattle.limits.proofs.descends.Statement.{statement}
 use Rattle.limits.proofs.descends.Tie as tie
 
+-- the count is within its limits
+counted : (s : tie.Start) → Between 1 mostStages (s .args .case .falls)
+counted s = counts (s .args .case) (s .pre) .1
+
 sub-steps : tie.Need-sub-steps
-sub-steps c = search needs
+sub-steps c = let n = counted (c .before .before) in omega arith
 
 array-copy-out-first : tie.Need-array-copy-out-first
-array-copy-out-first c = search needs
+array-copy-out-first c = omega arith
 
 mul-last : tie.Need-mul-last
-mul-last c = search needs
+mul-last c = let n = counted (c .before .before .before) in omega arith
 
 array-copy-out-last : tie.Need-array-copy-out-last
-array-copy-out-last c = search needs
+array-copy-out-last c = let n = counted (c .before .before .before) in omega arith
 
-falls-requires : tie.Need-falls-requires
-falls-requires c κs = search needs
+strict-requires : tie.Need-strict-requires
+strict-requires c κs = let n = counted (c .before .before .before .before .before .before) in omega arith
 
 returns : tie.Need-returns
 unfolding descends
 returns c =
     let s = c .before .before .before .before .before .before .before .before in
     let case = s .args .case in
-    cc (stage-here (case .fall) 0, stage-last (case .fall) (case .falls) (s .pre .some-fall))
+    cc (stage-here (case .fall) 0, stage-last (case .fall) (case .falls) (counted s .0))
 
 pub descends-spec : {M : Type 1} → statement M
 descends-spec =
     tie.close
-    (tie.spec sub-steps array-copy-out-first mul-last array-copy-out-last falls-requires returns)
+    (tie.spec sub-steps array-copy-out-first mul-last array-copy-out-last strict-requires returns)

@@ -4,13 +4,14 @@ use mathlib.Core.Path.{_≡_, ap, _∙_}
 use Prim.Native.Nat.{_-_, _≤_}
 use native.Mathlib.Omega.{arith}
 use lib.Dec.{leb}
+use Rattle.model.specs.Limits.{mostOrder}
 use Rattle.model.specs.Symbols.{every, hourly}
 use Rattle.model.proofs.RefusalsLaws.{every-none, every-more, hourly-here}
 use Rattle.limits.proofs.ordered.Statement.{statement}
 use Rattle.limits.proofs.ordered.Tie as tie
 
 abbrev Inv-loop : tie.InvT-loop
-Inv-loop n orders so₀ i₀ so i = (i ≤ n) × (so ≡ every (λ k. leb (hourly orders k) 2) i)
+Inv-loop n orders so₀ i₀ so i = (i ≤ n) × (so ≡ every (λ k. leb (hourly orders k) mostOrder) i)
 
 abbrev μ-loop : tie.MeasureT-loop
 μ-loop n orders so₀ i₀ so i = n - i
@@ -31,7 +32,7 @@ loop-again : tie.Need-loop-again Inv-loop μ-loop
 loop-again c =
     let l = c .before .loop in
     let here = hourly-here (c .before .before .args .t1) (l .i) in
-    (omega arith, every-more _ (l .i) (l .inv .1) (ap (λ x. leb x 2) here))
+    (omega arith, every-more _ (l .i) (l .inv .1) (ap (λ x. leb x mostOrder) here))
 
 returns : tie.Need-returns Inv-loop μ-loop
 returns c =

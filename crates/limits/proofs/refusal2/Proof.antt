@@ -1,17 +1,16 @@
 -- `limits::refusal2` meets its contract. The test is the definition's own. Assumes nothing.
-use borrow.Author.Needs.{needs}
 use Rattle.model.specs.Refusals.{refusal2}
 use Rattle.limits.proofs.refusal2.Statement.{statement}
 use Rattle.limits.proofs.refusal2.Tie as tie
 
 counted-requires : tie.Need-counted-requires
-counted-requires c κs = search needs
+counted-requires c κs = tt
 
 counted-requires-2 : tie.Need-counted-requires-2
-counted-requires-2 c κs = search needs
+counted-requires-2 c κs = tt
 
 counted-requires-3 : tie.Need-counted-requires-3
-counted-requires-3 c κs = search needs
+counted-requires-3 c κs = tt
 
 returns : tie.Need-returns
 unfolding refusal2

@@ -1,11 +1,10 @@
 -- `limits::refusal3` meets its contract. The test is the definition's own. Assumes nothing.
-use borrow.Author.Needs.{needs}
 use Rattle.model.specs.Refusals.{refusal3}
 use Rattle.limits.proofs.refusal3.Statement.{statement}
 use Rattle.limits.proofs.refusal3.Tie as tie
 
 between-requires : tie.Need-between-requires
-between-requires c κs = search needs
+between-requires c κs = tt
 
 returns : tie.Need-returns
 unfolding refusal3

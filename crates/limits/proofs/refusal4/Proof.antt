@@ -1,20 +1,19 @@
 -- `limits::refusal4` meets its contract. The test is the definition's own. Assumes nothing.
-use borrow.Author.Needs.{needs}
 use Rattle.model.specs.Refusals.{refusal4}
 use Rattle.limits.proofs.refusal4.Statement.{statement}
 use Rattle.limits.proofs.refusal4.Tie as tie
 
 between-requires : tie.Need-between-requires
-between-requires c κs = search needs
+between-requires c κs = tt
 
 between-requires-2 : tie.Need-between-requires-2
-between-requires-2 c κs = search needs
+between-requires-2 c κs = tt
 
 between-requires-3 : tie.Need-between-requires-3
-between-requires-3 c κs = search needs
+between-requires-3 c κs = tt
 
 between-requires-4 : tie.Need-between-requires-4
-between-requires-4 c κs = search needs
+between-requires-4 c κs = tt
 
 returns : tie.Need-returns
 unfolding refusal4

@@ -1,14 +1,13 @@
 -- `limits::refusal6` meets its contract. The test is the definition's own. Assumes nothing.
-use borrow.Author.Needs.{needs}
 use Rattle.model.specs.Refusals.{refusal6}
 use Rattle.limits.proofs.refusal6.Statement.{statement}
 use Rattle.limits.proofs.refusal6.Tie as tie
 
 climbs-requires : tie.Need-climbs-requires
-climbs-requires c κs = search needs
+climbs-requires c κs = c .pre
 
 descends-requires : tie.Need-descends-requires
-descends-requires c κs = search needs
+descends-requires c κs = c .before .pre
 
 returns : tie.Need-returns
 unfolding refusal6

@@ -5,10 +5,10 @@ use Rattle.limits.proofs.refusal7.Statement.{statement}
 use Rattle.limits.proofs.refusal7.Tie as tie
 
 between-requires : tie.Need-between-requires
-between-requires c κs = search needs
+between-requires c κs = tt
 
 between-requires-2 : tie.Need-between-requires-2
-between-requires-2 c κs = search needs
+between-requires-2 c κs = tt
 
 cast-result : tie.Need-cast-result
 cast-result c = search needs

@@ -1,12 +1,12 @@
 -- `limits::refusal8` meets its contract. The test is the definition's own; the hours have room in the array,
 -- since 2 does not apply. Assumes nothing.
-use borrow.Author.Needs.{needs}
 use Rattle.model.specs.Refusals.{refusal8}
+use Rattle.model.proofs.LimitsLaws.{counts}
 use Rattle.limits.proofs.refusal8.Statement.{statement}
 use Rattle.limits.proofs.refusal8.Tie as tie
 
 ordered-requires : tie.Need-ordered-requires
-ordered-requires c κs = search needs
+ordered-requires c κs = counts (c .before .args .case) (c .before .pre) .2 .1
 
 returns : tie.Need-returns
 unfolding refusal8

@@ -2,11 +2,9 @@
 -- numbers then come one after the other. Assumes nothing.
 use mathlib.Core.Path.{_≡_, sym, _∙_}
 use mathlib.Core.Bool.{false}
-use borrow.Author.Needs.{needs}
 use Rattle.model.specs.declared.Case.{Case}
 use Rattle.model.specs.Refusals.{refusal2}
 use Rattle.model.proofs.RefusalsLaws.{refusalOf-two, refusalOf-chain}
-use Rattle.limits.proofs.CountsLaws.{refusal2→counted}
 use Rattle.limits.proofs.refusal_of.Statement.{statement}
 use Rattle.limits.proofs.refusal_of.Tie as tie
 
@@ -18,48 +16,46 @@ off2 : (c : tie.Else1) → refusal2 (case c) ≡ false
 off2 c = sym (c .before .refusal2 .ensures) ∙ c .if1 .left
 
 refusal2-requires : tie.Need-refusal2-requires
-refusal2-requires c κs = search needs
+refusal2-requires c κs = tt
 
 returns : tie.Need-returns
 returns c = refusalOf-two (c .before .before .args .case) (sym (c .before .refusal2 .ensures) ∙ c .if1 .taken)
 
 refusal3-requires : tie.Need-refusal3-requires
-refusal3-requires c κs = search needs
+refusal3-requires c κs = tt
 
 refusal4-requires : tie.Need-refusal4-requires
-refusal4-requires c κs = search needs
+refusal4-requires c κs = tt
 
 refusal5-requires : tie.Need-refusal5-requires
-refusal5-requires c κs = search needs
+refusal5-requires c κs = tt
 
 refusal6-requires : tie.Need-refusal6-requires
-refusal6-requires c κs = let here = c .before .before .before in refusal2→counted (case here) (off2 here)
+refusal6-requires c κs = off2 (c .before .before .before)
 
 refusal7-requires : tie.Need-refusal7-requires
-refusal7-requires c κs = search needs
+refusal7-requires c κs = tt
 
 refusal8-requires : tie.Need-refusal8-requires
-refusal8-requires c κs =
-    let here = c .before .before .before .before .before in
-    refusal2→counted (case here) (off2 here)
+refusal8-requires c κs = off2 (c .before .before .before .before .before)
 
 first-of-requires : tie.Need-first-of-requires
-first-of-requires c κs = search needs
+first-of-requires c κs = tt
 
 first-of-requires-2 : tie.Need-first-of-requires-2
-first-of-requires-2 c κs = search needs
+first-of-requires-2 c κs = tt
 
 first-of-requires-3 : tie.Need-first-of-requires-3
-first-of-requires-3 c κs = search needs
+first-of-requires-3 c κs = tt
 
 first-of-requires-4 : tie.Need-first-of-requires-4
-first-of-requires-4 c κs = search needs
+first-of-requires-4 c κs = tt
 
 first-of-requires-5 : tie.Need-first-of-requires-5
-first-of-requires-5 c κs = search needs
+first-of-requires-5 c κs = tt
 
 first-of-requires-6 : tie.Need-first-of-requires-6
-first-of-requires-6 c κs = search needs
+first-of-requires-6 c κs = tt
 
 returns-2 : tie.Need-returns-2
 returns-2 c =

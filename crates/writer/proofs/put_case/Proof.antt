@@ -1,21 +1,39 @@
 -- `writer::put_case` meets its contract. Each section stands where the one before ends, and the file has room.
 -- Assumes nothing.
+use native.Mathlib.Omega.{arith}
 use borrow.Author.Needs.{needs}
+use Rattle.model.proofs.LimitsLaws.{Limits, limits-of-refusalOf}
 use Rattle.model.proofs.SetsLaws.{case-written}
 use Rattle.writer.proofs.put_case.Statement.{statement}
 use Rattle.writer.proofs.put_case.Tie as tie
 
+-- the record is within the limits
+limits : (s : tie.Start) → Limits (s .args .case)
+limits s = limits-of-refusalOf (s .args .case) (s .pre .0)
+
+-- the entry, from the section that is written
+abbrev unit : tie.After-put-unit-arg → tie.Start
+unit c = c .before .before .before .before .before .before .before .before .before .before
+
+abbrev rise : tie.After-put-stages-arg → tie.Start
+rise c = unit (c .before .before .before .before)
+
+abbrev fall : tie.After-put-stages-arg2 → tie.Start
+fall c = rise (c .before .before .before .before)
+
 mul-falls : tie.Need-mul-falls
-mul-falls c = search needs
+mul-falls c = omega (arith, limits (c .before .before .before .before) .rises-le)
 
 add-falls : tie.Need-add-falls
-add-falls c = search needs
+add-falls c = omega (arith, limits (c .before .before .before .before) .rises-le)
 
 mul-hours : tie.Need-mul-hours
-mul-hours c = search needs
+mul-hours c = omega (arith, limits (c .before .before .before .before .before) .falls-le)
 
 add-hours : tie.Need-add-hours
-add-hours c = search needs
+add-hours c =
+    let l = limits (c .before .before .before .before .before) in
+    omega (arith, l .rises-le, l .falls-le)
 
 put-pairs-requires : tie.Need-put-pairs-requires
 put-pairs-requires c κs = search needs
@@ -24,10 +42,10 @@ put-unit-requires : tie.Need-put-unit-requires
 put-unit-requires c κs = search needs
 
 put-stages-requires : tie.Need-put-stages-requires
-put-stages-requires c κs = search needs
+put-stages-requires c κs = let r = limits (rise c) .rises-le in search needs
 
 put-stages-requires-2 : tie.Need-put-stages-requires-2
-put-stages-requires-2 c κs = search needs
+put-stages-requires-2 c κs = let f = limits (fall c) .falls-le in search needs
 
 put-hours-requires : tie.Need-put-hours-requires
 put-hours-requires c κs = search needs
@@ -37,14 +55,14 @@ same-length c = search needs
 
 returns : tie.Need-returns
 returns c =
-    let hours = c .before .before in
-    let fall = hours .before .before .before .before in
-    let rise = fall .before .before .before .before in
-    let unit = rise .before .before .before .before in
-    let pairs = unit .before .before .before .before in
-    let s = pairs .before .before .before .before .before .before .before in
-    case-written (s .args .case) (s .args .out .now) (pairs .put-pairs .ensures) (unit .put-unit .ensures)
-    (rise .put-stages .ensures) (fall .put-stages2 .ensures) (hours .put-hours .ensures)
+    let five = c .before .before in
+    let four = five .before .before .before .before in
+    let three = four .before .before .before .before in
+    let two = three .before .before .before .before in
+    let one = two .before .before .before .before in
+    let args = unit (two .before) .args in
+    case-written (args .case) (args .out .now) (one .put-pairs .ensures) (two .put-unit .ensures)
+    (three .put-stages .ensures) (four .put-stages2 .ensures) (five .put-hours .ensures)
 
 pub put-case-spec : {M : Type 1} → statement M
 put-case-spec =

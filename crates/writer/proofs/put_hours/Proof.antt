@@ -6,7 +6,9 @@ use Prim.Native.Nat.{_-_, _≤_}
 use native.Mathlib.Omega.{arith}
 use lib.ListN.{length, getD}
 use lib.Seq.{sets}
+use Rattle.model.specs.Limits.{hourWidth}
 use Rattle.model.specs.Layout.{bytes, joined}
+use Rattle.model.proofs.LimitsLaws.{Limits, limits-of-refusalOf}
 use Rattle.model.proofs.SetsLaws.{sets-start, sets-step, sets-end, length-hour, hourBytes-joined}
 use Rattle.writer.proofs.put_hours.Statement.{statement}
 use Rattle.writer.proofs.put_hours.Tie as tie
@@ -19,6 +21,10 @@ Inv-loop out₀ at prices orders n i₀ out i =
 
 abbrev μ-loop : tie.MeasureT-loop
 μ-loop out₀ at prices orders n i₀ out i = n - i
+
+-- the record is within the limits
+limits : (s : tie.Start Inv-loop μ-loop) → Limits (s .args .case)
+limits s = limits-of-refusalOf (s .args .case) (s .pre .0)
 
 loop-holds : tie.Need-loop-holds Inv-loop μ-loop
 loop-holds c =
@@ -35,10 +41,10 @@ mul-put-hour-2 : tie.Need-mul-put-hour-2 Inv-loop μ-loop
 mul-put-hour-2 c = omega arith
 
 array-read-put-hour : tie.Need-array-read-put-hour Inv-loop μ-loop
-array-read-put-hour c = omega arith
+array-read-put-hour c = omega (arith, limits (c .before .before .before .before .before .before) .hours-le)
 
 array-read-put-hour-2 : tie.Need-array-read-put-hour-2 Inv-loop μ-loop
-array-read-put-hour-2 c = omega arith
+array-read-put-hour-2 c = omega (arith, limits (c .before .before .before .before .before .before) .hours-le)
 
 put-hour-requires : tie.Need-put-hour-requires Inv-loop μ-loop
 put-hour-requires c κs = omega arith
@@ -58,8 +64,8 @@ loop-again c =
     let orders = s .args .case .orders in (
       omega arith,
       call .put-hour .kept .0 ∙ l .inv .1,
-      sets-step 3 _ (λ i. length-hour (getD prices i 0) (getD orders i 0)) (s .args .out .now) (s .args .at) (l .i)
-          (l .inv .2) (call .put-hour .ensures),
+      sets-step hourWidth _ (λ i. length-hour (getD prices i 0) (getD orders i 0)) (s .args .out .now) (s .args .at)
+          (l .i) (l .inv .2) (call .put-hour .ensures),
     )
 
 same-length : tie.Need-same-length Inv-loop μ-loop

@@ -5,6 +5,7 @@ use Prim.Native.Nat.{_-_, _≤_}
 use native.Mathlib.Omega.{arith}
 use lib.ListN.{length, getD}
 use lib.Seq.{sets}
+use Rattle.model.specs.Limits.{stageWidth}
 use Rattle.model.specs.Layout.{bytes, joined, noOutput}
 use Rattle.model.proofs.LayoutLaws.{length-bytes}
 use Rattle.model.proofs.SetsLaws.{sets-start, sets-step, sets-end, stageBytes-joined}
@@ -50,7 +51,7 @@ loop-again c =
     let outputs = s .args .t3 in (
       omega arith,
       call .put-word .kept .0 ∙ l .inv .1,
-      sets-step 2 _ (λ i. length-bytes 2 (getD outputs i noOutput .0)) (s .args .out .now) (s .args .at) (l .i)
+      sets-step stageWidth _ (λ i. length-bytes 2 (getD outputs i noOutput .0)) (s .args .out .now) (s .args .at) (l .i)
           (l .inv .2) (call .put-word .ensures),
     )
 

@@ -7,17 +7,32 @@ use Rattle.writer.proofs.put_unit.Tie as tie
 put-pair-requires : tie.Need-put-pair-requires
 put-pair-requires c κs = search needs
 
+add-put-pair : tie.Need-add-put-pair
+add-put-pair c = search needs
+
 put-pair-requires-2 : tie.Need-put-pair-requires-2
 put-pair-requires-2 c κs = search needs
+
+add-put-pair-2 : tie.Need-add-put-pair-2
+add-put-pair-2 c = search needs
 
 put-pair-requires-3 : tie.Need-put-pair-requires-3
 put-pair-requires-3 c κs = search needs
 
+add-put-longs : tie.Need-add-put-longs
+add-put-longs c = search needs
+
 put-longs-requires : tie.Need-put-longs-requires
 put-longs-requires c κs = search needs
 
+add-put-longs-2 : tie.Need-add-put-longs-2
+add-put-longs-2 c = search needs
+
 put-longs-requires-2 : tie.Need-put-longs-requires-2
 put-longs-requires-2 c κs = search needs
+
+add-put-pair-3 : tie.Need-add-put-pair-3
+add-put-pair-3 c = search needs
 
 put-pair-requires-4 : tie.Need-put-pair-requires-4
 put-pair-requires-4 c κs = search needs
@@ -42,10 +57,15 @@ put-unit-spec =
     tie.close
     (tie.spec
     put-pair-requires
+    add-put-pair
     put-pair-requires-2
+    add-put-pair-2
     put-pair-requires-3
+    add-put-longs
     put-longs-requires
+    add-put-longs-2
     put-longs-requires-2
+    add-put-pair-3
     put-pair-requires-4
     same-length
     returns)

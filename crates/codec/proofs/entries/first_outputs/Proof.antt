@@ -4,6 +4,7 @@ use mathlib.Core.Path.{_≡_, refl, _∙_}
 use Prim.Native.Nat.{_-_, _≤_}
 use native.Mathlib.Omega.{arith}
 use lib.ListN.{length, getD, length-set}
+use Rattle.model.specs.Limits.{mostStages}
 use Rattle.model.specs.Layout.{padded, noOutput}
 use Rattle.model.proofs.FilledLaws.{padded-start, padded-step, padded-end}
 use Rattle.codec.proofs.entries.first_outputs.Statement.{statement}
@@ -11,13 +12,13 @@ use Rattle.codec.proofs.entries.first_outputs.Tie as tie
 
 abbrev Inv-loop : tie.InvT-loop
 Inv-loop n outputs first₀ i₀ first i =
-    (i ≤ n) × (length first ≡ 8) × (first ≡ padded noOutput (λ i. getD outputs i noOutput) i 8)
+    (i ≤ n) × (length first ≡ mostStages) × (first ≡ padded noOutput (λ i. getD outputs i noOutput) i mostStages)
 
 abbrev μ-loop : tie.MeasureT-loop
 μ-loop n outputs first₀ i₀ first i = n - i
 
 loop-holds : tie.Need-loop-holds Inv-loop μ-loop
-loop-holds c = (omega arith, refl, padded-start noOutput _ 8)
+loop-holds c = (omega arith, refl, padded-start noOutput _ mostStages)
 
 mul-output : tie.Need-mul-output Inv-loop μ-loop
 mul-output c = omega arith
@@ -44,13 +45,13 @@ loop-again c =
     let x = getD outputs (l .i) noOutput in (
       omega arith,
       length-set (l .first) (l .i) x ∙ l .inv .1,
-      padded-step noOutput (λ i. getD outputs i noOutput) (l .i) 8 x (l .inv .2) (omega arith) refl,
+      padded-step noOutput (λ i. getD outputs i noOutput) (l .i) mostStages x (l .inv .2) (omega arith) refl,
     )
 
 returns : tie.Need-returns Inv-loop μ-loop
 returns c =
     let l = c .before .loop in
-    padded-end noOutput _ (l .i) (c .before .before .args .n) 8 (l .inv .2) (omega arith)
+    padded-end noOutput _ (l .i) (c .before .before .args .n) mostStages (l .inv .2) (omega arith)
 
 pub first-outputs-spec : {M : Type 1} → statement M
 first-outputs-spec =

@@ -4,6 +4,7 @@ use mathlib.Core.Path.{_≡_, refl, _∙_}
 use Prim.Native.Nat.{_-_, _≤_}
 use native.Mathlib.Omega.{arith}
 use lib.ListN.{length, getD, length-set}
+use Rattle.model.specs.Limits.{mostHours}
 use Rattle.model.specs.Layout.{padded}
 use Rattle.model.proofs.FilledLaws.{padded-start, padded-step, padded-end}
 use Rattle.codec.proofs.entries.first_prices.Statement.{statement}
@@ -11,13 +12,13 @@ use Rattle.codec.proofs.entries.first_prices.Tie as tie
 
 abbrev Inv-loop : tie.InvT-loop
 Inv-loop n prices first₀ i₀ first i =
-    (i ≤ n) × (length first ≡ 48) × (first ≡ padded 0 (λ i. getD prices i 0) i 48)
+    (i ≤ n) × (length first ≡ mostHours) × (first ≡ padded 0 (λ i. getD prices i 0) i mostHours)
 
 abbrev μ-loop : tie.MeasureT-loop
 μ-loop n prices first₀ i₀ first i = n - i
 
 loop-holds : tie.Need-loop-holds Inv-loop μ-loop
-loop-holds c = (omega arith, refl, padded-start 0 _ 48)
+loop-holds c = (omega arith, refl, padded-start 0 _ mostHours)
 
 mul-first : tie.Need-mul-first Inv-loop μ-loop
 mul-first c = omega arith
@@ -44,13 +45,13 @@ loop-again c =
     let x = getD prices (l .i) 0 in (
       omega arith,
       length-set (l .first) (l .i) x ∙ l .inv .1,
-      padded-step 0 (λ i. getD prices i 0) (l .i) 48 x (l .inv .2) (omega arith) refl,
+      padded-step 0 (λ i. getD prices i 0) (l .i) mostHours x (l .inv .2) (omega arith) refl,
     )
 
 returns : tie.Need-returns Inv-loop μ-loop
 returns c =
     let l = c .before .loop in
-    padded-end 0 _ (l .i) (c .before .before .args .n) 48 (l .inv .2) (omega arith)
+    padded-end 0 _ (l .i) (c .before .before .args .n) mostHours (l .inv .2) (omega arith)
 
 pub first-prices-spec : {M : Type 1} → statement M
 first-prices-spec =

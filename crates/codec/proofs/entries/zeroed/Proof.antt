@@ -1,20 +1,24 @@
 -- `codec::entries::zeroed` meets its contract. Only the arrays change, each by its own count. Assumes nothing.
-use borrow.Author.Needs.{needs}
 use Rattle.model.specs.Layout.{zeroed}
+use Rattle.model.proofs.LimitsLaws.{Limits, limits-of-refusalOf}
 use Rattle.codec.proofs.entries.zeroed.Statement.{statement}
 use Rattle.codec.proofs.entries.zeroed.Tie as tie
 
+-- the record is within the limits
+limits : (s : tie.Start) → Limits (s .args .case)
+limits s = limits-of-refusalOf (s .args .case) (s .pre)
+
 first-outputs-requires : tie.Need-first-outputs-requires
-first-outputs-requires c κs = search needs
+first-outputs-requires c κs = limits (c .before .before .before .before) .rises-le
 
 first-outputs-requires-2 : tie.Need-first-outputs-requires-2
-first-outputs-requires-2 c κs = search needs
+first-outputs-requires-2 c κs = limits (c .before .before .before .before .before) .falls-le
 
 first-prices-requires : tie.Need-first-prices-requires
-first-prices-requires c κs = search needs
+first-prices-requires c κs = limits (c .before .before .before .before .before .before) .hours-le
 
 first-orders-requires : tie.Need-first-orders-requires
-first-orders-requires c κs = search needs
+first-orders-requires c κs = limits (c .before .before .before .before .before .before .before) .hours-le
 
 returns : tie.Need-returns
 unfolding zeroed

@@ -1,10 +1,11 @@
--- `reader::pairs::refusal1` meets its contract. A file of 16 bytes or more has its pairs; the test is then the
+-- `reader::pairs::refusal1` meets its contract. A file that is long enough has its pairs; the test is then the
 -- definition's own. Assumes nothing.
 use Prim.Native.Nat.{_≤_}
 use native.Mathlib.Omega.{arith}
 use lib.ListN.{length}
 use borrow.Author.Tests.{lt-ltb, le-ltb}
 use borrow.Author.Needs.{needs}
+use Rattle.model.specs.Limits.{pairsLength}
 use Rattle.model.specs.Refusals.{refusal1}
 use Rattle.reader.proofs.pairs.refusal1.Statement.{statement}
 use Rattle.reader.proofs.pairs.refusal1.Tie as tie
@@ -41,8 +42,8 @@ returns-2 : tie.Need-returns-2
 unfolding refusal1
 returns-2 c =
     let file = c .before .before .before .before .before .before .before .before .before .before .args .file .now in
-    let h : 16 ≤ length file = omega arith in
-    rw (le-ltb (length file) 16 h) (cc)
+    let h : pairsLength ≤ length file = omega arith in
+    rw (le-ltb (length file) pairsLength h) (cc)
 
 pub refusal1-spec : {M : Type 1} → statement M
 refusal1-spec =

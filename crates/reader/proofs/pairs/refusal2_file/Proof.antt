@@ -10,20 +10,20 @@ length-at-requires c κs = search needs
 length-at-requires-2 : tie.Need-length-at-requires-2
 length-at-requires-2 c κs = search needs
 
-hours-misfit-requires : tie.Need-hours-misfit-requires
-hours-misfit-requires c κs = search needs
+misfits-requires : tie.Need-misfits-requires
+misfits-requires c κs = search needs
 
 length-at-requires-3 : tie.Need-length-at-requires-3
 length-at-requires-3 c κs = search needs
 
-stages-misfit-requires : tie.Need-stages-misfit-requires
-stages-misfit-requires c κs = search needs
+misfits-requires-2 : tie.Need-misfits-requires-2
+misfits-requires-2 c κs = search needs
 
 length-at-requires-4 : tie.Need-length-at-requires-4
 length-at-requires-4 c κs = search needs
 
-stages-misfit-requires-2 : tie.Need-stages-misfit-requires-2
-stages-misfit-requires-2 c κs = search needs
+misfits-requires-3 : tie.Need-misfits-requires-3
+misfits-requires-3 c κs = search needs
 
 returns : tie.Need-returns
 unfolding refusal2File
@@ -35,9 +35,9 @@ refusal2-file-spec =
     (tie.spec
     length-at-requires
     length-at-requires-2
-    hours-misfit-requires
+    misfits-requires
     length-at-requires-3
-    stages-misfit-requires
+    misfits-requires-2
     length-at-requires-4
-    stages-misfit-requires-2
+    misfits-requires-3
     returns)

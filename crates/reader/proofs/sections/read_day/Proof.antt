@@ -5,9 +5,6 @@ use Rattle.reader.specs.Sections.{dayOf}
 use Rattle.reader.proofs.sections.read_day.Statement.{statement}
 use Rattle.reader.proofs.sections.read_day.Tie as tie
 
-hour-count-requires : tie.Need-hour-count-requires
-hour-count-requires c κs = search needs
-
 read-prices-requires : tie.Need-read-prices-requires
 read-prices-requires c κs = search needs
 
@@ -20,4 +17,4 @@ returns c = cc
 
 pub read-day-spec : {M : Type 1} → statement M
 read-day-spec =
-    tie.close (tie.spec hour-count-requires read-prices-requires read-orders-requires returns)
+    tie.close (tie.spec read-prices-requires read-orders-requires returns)

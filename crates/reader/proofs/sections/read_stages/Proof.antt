@@ -1,24 +1,26 @@
 -- `reader::sections::read_stages` meets its contract. The invariant: the first i outputs are read, and those past them
 -- are zero. Assumes nothing.
 use mathlib.Core.Path.{_≡_, refl, _∙_}
-use Prim.Native.Nat.{_*_, _-_, _≤_}
+use Prim.Native.Nat.{_-_, _≤_}
 use native.Mathlib.Omega.{arith}
 use lib.ListN.{length, length-set}
 use Rattle.model.specs.declared.Output.{Output}
-use Rattle.model.specs.Layout.{numberAt, padded, noOutput}
+use Rattle.model.specs.Limits.{mostStages}
+use Rattle.model.specs.Layout.{padded, noOutput}
 use Rattle.model.proofs.FilledLaws.{padded-start, padded-step, padded-end}
+use Rattle.reader.specs.Sections.{stageAt}
 use Rattle.reader.proofs.sections.read_stages.Statement.{statement}
 use Rattle.reader.proofs.sections.read_stages.Tie as tie
 
 abbrev Inv-loop : tie.InvT-loop
 Inv-loop part n outputs₀ i₀ outputs i =
-    (i ≤ n) × (length outputs ≡ 8) × (outputs ≡ padded noOutput (λ i. record { 0 = numberAt part (2 * i) 2 }) i 8)
+    (i ≤ n) × (length outputs ≡ mostStages) × (outputs ≡ padded noOutput (stageAt part) i mostStages)
 
 abbrev μ-loop : tie.MeasureT-loop
 μ-loop part n outputs₀ i₀ outputs i = n - i
 
 loop-holds : tie.Need-loop-holds Inv-loop μ-loop
-loop-holds c = (omega arith, refl, padded-start noOutput _ 8)
+loop-holds c = (omega arith, refl, padded-start noOutput _ mostStages)
 
 mul-word : tie.Need-mul-word Inv-loop μ-loop
 mul-word c = omega arith
@@ -41,17 +43,16 @@ loop-less c = omega arith
 loop-again : tie.Need-loop-again Inv-loop μ-loop
 loop-again c =
     let l = c .before .before .loop in
-    let part = c .before .before .before .before .args .part .now in
     let x : Output = record { 0 = c .word .result } in (
       omega arith,
       length-set (l .outputs) (l .i) x ∙ l .inv .1,
-      padded-step noOutput _ (l .i) 8 x (l .inv .2) (omega arith) (λ j. record { 0 = c .word .ensures j }),
+      padded-step noOutput _ (l .i) mostStages x (l .inv .2) (omega arith) (λ j. record { 0 = c .word .ensures j }),
     )
 
 returns : tie.Need-returns Inv-loop μ-loop
 returns c =
     let l = c .before .loop in
-    padded-end noOutput _ (l .i) (c .before .before .before .args .n) 8 (l .inv .2) (omega arith)
+    padded-end noOutput _ (l .i) (c .before .before .before .args .n) mostStages (l .inv .2) (omega arith)
 
 pub read-stages-spec : {M : Type 1} → statement M
 read-stages-spec =

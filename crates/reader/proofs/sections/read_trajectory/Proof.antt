@@ -5,9 +5,6 @@ use Rattle.reader.specs.Sections.{trajectoryOf}
 use Rattle.reader.proofs.sections.read_trajectory.Statement.{statement}
 use Rattle.reader.proofs.sections.read_trajectory.Tie as tie
 
-stage-count-requires : tie.Need-stage-count-requires
-stage-count-requires c κs = search needs
-
 read-stages-requires : tie.Need-read-stages-requires
 read-stages-requires c κs = search needs
 
@@ -16,4 +13,4 @@ unfolding trajectoryOf
 returns c = cc
 
 pub read-trajectory-spec : {M : Type 1} → statement M
-read-trajectory-spec = tie.close (tie.spec stage-count-requires read-stages-requires returns)
+read-trajectory-spec = tie.close (tie.spec read-stages-requires returns)

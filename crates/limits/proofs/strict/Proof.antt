@@ -1,18 +1,19 @@
--- `limits::falls` meets its contract. The invariant: `so` is the test of the steps passed. Assumes nothing.
+-- `limits::strict` meets its contract. The invariant: `so` is the test of the steps passed. Assumes nothing.
 use mathlib.Core.Path.{_≡_, ap, _∙_}
 use Prim.Native.Nat.{suc, _-_, _≤_}
 use native.Mathlib.Omega.{arith}
-use lib.Dec.{ltb}
 use Rattle.model.specs.Symbols.{every, stage}
 use Rattle.model.proofs.RefusalsLaws.{every-none, every-more, stage-here, stage-next}
-use Rattle.limits.proofs.falls.Statement.{statement}
-use Rattle.limits.proofs.falls.Tie as tie
+use Rattle.limits.specs.Steps.{stepped}
+use Rattle.limits.proofs.strict.Statement.{statement}
+use Rattle.limits.proofs.strict.Tie as tie
 
 abbrev Inv-loop : tie.InvT-loop
-Inv-loop steps outputs so₀ i₀ so i = (i ≤ steps) × (so ≡ every (λ i. ltb (stage outputs (suc i)) (stage outputs i)) i)
+Inv-loop steps up outputs so₀ i₀ so i =
+    (i ≤ steps) × (so ≡ every (λ i. stepped up (stage outputs i) (stage outputs (suc i))) i)
 
 abbrev μ-loop : tie.MeasureT-loop
-μ-loop steps outputs so₀ i₀ so i = steps - i
+μ-loop steps up outputs so₀ i₀ so i = steps - i
 
 loop-holds : tie.Need-loop-holds Inv-loop μ-loop
 loop-holds c = (omega arith, every-none _)
@@ -32,6 +33,9 @@ mul-b c = omega arith
 array-copy-out-b : tie.Need-array-copy-out-b Inv-loop μ-loop
 array-copy-out-b c = omega arith
 
+way-requires : tie.Need-way-requires Inv-loop μ-loop
+way-requires c κs = tt
+
 add-i : tie.Need-add-i Inv-loop μ-loop
 add-i c = omega arith
 
@@ -40,8 +44,9 @@ loop-less c = omega arith
 
 loop-again : tie.Need-loop-again Inv-loop μ-loop
 loop-again c =
-    let l = c .before .before .before .before .before .loop in
-    let outputs = c .before .before .before .before .before .before .args .t1 in
+    let at = c .before .before .before .before .before .before .before .before in
+    let l = at .loop in
+    let outputs = at .before .args .t1 in
     (omega arith, every-more _ (l .i) (l .inv .1) (cc (stage-here outputs (l .i), stage-next outputs (l .i))))
 
 returns : tie.Need-returns Inv-loop μ-loop
@@ -50,8 +55,8 @@ returns c =
     let e : l .i ≡ c .before .before .args .steps = omega arith in
     l .inv .1 ∙ ap (every _) e
 
-pub falls-spec : {M : Type 1} → statement M
-falls-spec =
+pub strict-spec : {M : Type 1} → statement M
+strict-spec =
     tie.close
     (tie.spec
     Inv-loop
@@ -62,6 +67,7 @@ falls-spec =
     add-b
     mul-b
     array-copy-out-b
+    way-requires
     add-i
     loop-less
     loop-again

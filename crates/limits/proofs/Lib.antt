@@ -1,2 +1,0 @@
--- Laws of counts within the limits.
-pub mod CountsLaws
