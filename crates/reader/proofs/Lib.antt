@@ -1,2 +1,3 @@
--- Laws of the crate's own definitions.
+-- Laws of the crate's own definitions, and of an array that is filled from the front.
+pub mod FilledLaws
 pub mod SectionsLaws

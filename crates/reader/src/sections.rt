@@ -5,9 +5,9 @@ ghost use mathlib.Core.Bool.{false};
 ghost use Prim.Native.Nat.{_*_, _≤_};
 ghost use lib.ListN.{length};
 ghost use Rattle.model.specs.Limits.{mostStages, mostHours, unitLength, stageWidth, hourWidth};
-ghost use Rattle.model.specs.Layout.{padded, noOutput, caseOf};
+ghost use Rattle.model.specs.Layout.{caseOf};
 ghost use Rattle.model.specs.Refusals.{refusal1, refusal2File};
-ghost use Rattle.reader.specs.Sections.{stageAt, priceAt, orderAt, trajectoryOf, dayOf, assembled};
+ghost use Rattle.reader.specs.Sections.{trajectoryOf, dayOf, assembled};
 use crate::numbers::long;
 use crate::numbers::word;
 use crate::pairs::section;
@@ -32,58 +32,19 @@ pub(crate) struct Day {
     count: usize,
 }
 
-// The first n outputs of a trajectory's section.
-fn read_stages(part: &[u8], n: usize) -> [Output; STAGES]
-    requires { ⌜ (n ≤ mostStages) × (stageWidth * n ≤ length (now part)) ⌝ }
-    ensures { λ r. ⌜ r ≡ padded noOutput (stageAt (now (part .entry))) n mostStages ⌝ }
-{
-    let mut outputs = [Output(0); STAGES];
-    let mut i = 0;
-    while i < n {
-        outputs[i] = Output(word(part, STAGE_BYTES * i));
-        i += 1;
-    }
-    outputs
-}
-
-// The first n prices of an hours section.
-fn read_prices(part: &[u8], n: usize) -> [u16; HOURS]
-    requires { ⌜ (n ≤ mostHours) × (hourWidth * n ≤ length (now part)) ⌝ }
-    ensures { λ r. ⌜ r ≡ padded 0 (priceAt (now (part .entry))) n mostHours ⌝ }
-{
-    let mut prices = [0u16; HOURS];
-    let mut i = 0;
-    while i < n {
-        prices[i] = word(part, HOUR_BYTES * i);
-        i += 1;
-    }
-    prices
-}
-
-// The first n order bytes of an hours section.
-fn read_orders(part: &[u8], n: usize) -> [u8; HOURS]
-    requires { ⌜ (n ≤ mostHours) × (hourWidth * n ≤ length (now part)) ⌝ }
-    ensures { λ r. ⌜ r ≡ padded 0 (orderAt (now (part .entry))) n mostHours ⌝ }
-{
-    let mut orders = [0u8; HOURS];
-    let mut i = 0;
-    while i < n {
-        orders[i] = part[HOUR_BYTES * i + 2];
-        i += 1;
-    }
-    orders
-}
-
 // A trajectory's section.
 fn read_trajectory(part: &[u8]) -> Trajectory
     requires { ⌜ length (now part) ≤ stageWidth * mostStages ⌝ }
     ensures { λ r. ⌜ r ≡ trajectoryOf (now (part .entry)) ⌝ }
 {
     let count = part.len() / STAGE_BYTES;
-    Trajectory {
-        outputs: read_stages(part, count),
-        count,
+    let mut outputs = [Output(0); STAGES];
+    let mut i = 0;
+    while i < count {
+        outputs[i] = Output(word(part, STAGE_BYTES * i));
+        i += 1;
     }
+    Trajectory { outputs, count }
 }
 
 // The hours section.
@@ -92,9 +53,17 @@ fn read_day(part: &[u8]) -> Day
     ensures { λ r. ⌜ r ≡ dayOf (now (part .entry)) ⌝ }
 {
     let count = part.len() / HOUR_BYTES;
+    let mut prices = [0u16; HOURS];
+    let mut orders = [0u8; HOURS];
+    let mut i = 0;
+    while i < count {
+        prices[i] = word(part, HOUR_BYTES * i);
+        orders[i] = part[HOUR_BYTES * i + 2];
+        i += 1;
+    }
     Day {
-        prices: read_prices(part, count),
-        orders: read_orders(part, count),
+        prices,
+        orders,
         count,
     }
 }

@@ -1,24 +1,23 @@
 -- `codec::entries::first_outputs` meets its contract. The invariant: the first i outputs are there, and those past
 -- them are zero. Assumes nothing.
-use mathlib.Core.Path.{_≡_, refl, _∙_}
-use Prim.Native.Nat.{_-_, _≤_}
+use mathlib.Core.Path.{refl}
+use Prim.Native.Nat.{_-_}
 use native.Mathlib.Omega.{arith}
-use lib.ListN.{length, getD, length-set}
+use lib.ListN.{getD}
 use Rattle.model.specs.Limits.{mostStages}
-use Rattle.model.specs.Layout.{padded, noOutput}
-use Rattle.model.proofs.FilledLaws.{padded-start, padded-step, padded-end}
+use Rattle.model.specs.Layout.{noOutput}
+use Rattle.reader.proofs.FilledLaws.{Filled, filled-start, filled-step, filled-end}
 use Rattle.codec.proofs.entries.first_outputs.Statement.{statement}
 use Rattle.codec.proofs.entries.first_outputs.Tie as tie
 
 abbrev Inv-loop : tie.InvT-loop
-Inv-loop n outputs first₀ i₀ first i =
-    (i ≤ n) × (length first ≡ mostStages) × (first ≡ padded noOutput (λ i. getD outputs i noOutput) i mostStages)
+Inv-loop n outputs first₀ i₀ first i = Filled noOutput (λ i. getD outputs i noOutput) n mostStages first i
 
 abbrev μ-loop : tie.MeasureT-loop
 μ-loop n outputs first₀ i₀ first i = n - i
 
 loop-holds : tie.Need-loop-holds Inv-loop μ-loop
-loop-holds c = (omega arith, refl, padded-start noOutput _ mostStages)
+loop-holds c = filled-start noOutput _ _ mostStages
 
 mul-output : tie.Need-mul-output Inv-loop μ-loop
 mul-output c = omega arith
@@ -41,17 +40,12 @@ loop-less c = omega arith
 loop-again : tie.Need-loop-again Inv-loop μ-loop
 loop-again c =
     let l = c .before .before .loop in
-    let outputs = c .before .before .before .args .t1 in
-    let x = getD outputs (l .i) noOutput in (
-      omega arith,
-      length-set (l .first) (l .i) x ∙ l .inv .1,
-      padded-step noOutput (λ i. getD outputs i noOutput) (l .i) mostStages x (l .inv .2) (omega arith) refl,
-    )
+    let args = c .before .before .before .args in
+    let x = getD (args .t1) (l .i) noOutput in
+    filled-step noOutput _ (args .n) mostStages x (l .inv) (omega arith) (omega arith) refl
 
 returns : tie.Need-returns Inv-loop μ-loop
-returns c =
-    let l = c .before .loop in
-    padded-end noOutput _ (l .i) (c .before .before .args .n) mostStages (l .inv .2) (omega arith)
+returns c = filled-end noOutput _ (c .before .before .args .n) mostStages (c .before .loop .inv) (omega arith)
 
 pub first-outputs-spec : {M : Type 1} → statement M
 first-outputs-spec =

@@ -1,16 +1,73 @@
--- `reader::sections::read_trajectory` meets its contract. The count of whole entries has room in the section and in
--- the array. Assumes nothing.
-use borrow.Author.Needs.{needs}
-use Rattle.reader.specs.Sections.{trajectoryOf}
+-- `reader::sections::read_trajectory` meets its contract. The invariant: the first i outputs are read, and those past
+-- them are zero. Assumes nothing.
+use Prim.Native.Nat.{_-_, _/_}
+use native.Mathlib.Omega.{arith}
+use lib.ListN.{length}
+use Rattle.model.specs.declared.Output.{Output}
+use Rattle.model.specs.Limits.{mostStages, stageWidth}
+use Rattle.model.specs.Layout.{noOutput}
+use Rattle.reader.specs.Sections.{stageAt, trajectoryOf}
+use Rattle.reader.proofs.FilledLaws.{Filled, filled-start, filled-step, filled-end}
 use Rattle.reader.proofs.sections.read_trajectory.Statement.{statement}
 use Rattle.reader.proofs.sections.read_trajectory.Tie as tie
 
-read-stages-requires : tie.Need-read-stages-requires
-read-stages-requires c κs = search needs
+abbrev Inv-loop : tie.InvT-loop
+Inv-loop part count outputs₀ i₀ outputs i = Filled noOutput (stageAt part) count mostStages outputs i
 
-returns : tie.Need-returns
+abbrev μ-loop : tie.MeasureT-loop
+μ-loop part count outputs₀ i₀ outputs i = count - i
+
+loop-holds : tie.Need-loop-holds Inv-loop μ-loop
+loop-holds c = filled-start noOutput _ _ mostStages
+
+mul-word : tie.Need-mul-word Inv-loop μ-loop
+mul-word c = omega arith
+
+word-requires : tie.Need-word-requires Inv-loop μ-loop
+word-requires c κs = omega arith
+
+mul-outputs : tie.Need-mul-outputs Inv-loop μ-loop
+mul-outputs c = omega arith
+
+array-set-from-outputs : tie.Need-array-set-from-outputs Inv-loop μ-loop
+array-set-from-outputs c = omega arith
+
+add-i : tie.Need-add-i Inv-loop μ-loop
+add-i c = omega arith
+
+loop-less : tie.Need-loop-less Inv-loop μ-loop
+loop-less c = omega arith
+
+loop-again : tie.Need-loop-again Inv-loop μ-loop
+loop-again c =
+    let at = c .before .before in
+    let part = at .before .before .args .part .now in
+    let n = length part / stageWidth in
+    let x : Output = record { 0 = c .word .result } in
+    filled-step noOutput (stageAt part) n mostStages x (at .loop .inv) (omega arith) (omega arith)
+    (λ j. record { 0 = c .word .ensures j })
+
+returns : tie.Need-returns Inv-loop μ-loop
 unfolding trajectoryOf
-returns c = cc
+returns c =
+    let at = c .before in
+    let part = at .before .before .args .part .now in
+    let n = length part / stageWidth in
+    let e = filled-end noOutput (stageAt part) n mostStages (at .loop .inv) (omega arith) in
+    λ j. record { outputs = e j; count = n }
 
 pub read-trajectory-spec : {M : Type 1} → statement M
-read-trajectory-spec = tie.close (tie.spec read-stages-requires returns)
+read-trajectory-spec =
+    tie.close
+    (tie.spec
+    Inv-loop
+    μ-loop
+    loop-holds
+    mul-word
+    word-requires
+    mul-outputs
+    array-set-from-outputs
+    add-i
+    loop-less
+    loop-again
+    returns)
