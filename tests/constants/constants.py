@@ -15,8 +15,8 @@ ROOT = pathlib.Path(__file__).resolve().parents[2]
 NAMED = ("model/src/lib.rt", "model/specs/Limits.antt", "machine/specs/Bounds.antt")
 VIEWS = tuple(f"model/{name}.antt" for name in ("specs/Published", "specs/Words", "specs/Days", "specs/Promises"))
 VIEWS += ("model/proofs/Days.antt",)
-# the number of a refusal, by file
-NUMBERED = {"model/proofs/RefusalsLaws.antt": ["≤ 8"]}
+# what stands for something else: the number of a refusal, the size of a 64-bit number
+NUMBERED = {"model/proofs/RefusalsLaws.antt": ["≤ 8"], "laws/proofs/Magnitude.antt": ["2 ^ 63"]}
 
 # hours, megawatts, working numbers, bytes, mills; sizes of the search, of the check and of the text
 ALWAYS = [25, 48, 49, 56, 63, 64, 144, 400, 796, 2800, 4096, 4097, 6400, 8192, 10000, 65535, 65536]
@@ -25,7 +25,7 @@ ALWAYS += [1000000, 100000000, 600000000]
 BOUNDS = [7, 8, 9, 15, 16, 17, 32]
 
 NUMBERS = "|".join(map(str, ALWAYS))
-LITERAL = re.compile(rf"(?<![\w.'·])(?:{NUMBERS})(?:(?:u8|u16|u32|u64|i64|usize)\b|(?![\w.']))")
+LITERAL = re.compile(rf"(?<![\w.'·])(?<!\^ )(?:{NUMBERS})(?:(?:u8|u16|u32|u64|i64|usize)\b|(?![\w.']))")
 COMPARED = re.compile(rf"(?:≤|<|≡|<=|>=|==)\s(?:{'|'.join(map(str, BOUNDS))})(?![\w.'])")
 POWER = re.compile(r"(?<![\w'])2 \^ \d+")
 ASIDE = re.compile(r"(--|//).*$|^\s*(ghost )?use .*$|^#\[.*$")
