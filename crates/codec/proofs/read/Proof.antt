@@ -1,10 +1,11 @@
 -- `codec::read` meets its contract. Neither 1 nor 2 applies where the case is read, so that its sections lie within
 -- the file. Assumes nothing.
-use mathlib.Core.Path.{_≡_, sym, _∙_}
+use mathlib.Core.Path.{_≡_, sym, ap, _∙_}
 use mathlib.Core.Bool.{false}
 use mathlib.Core.List.{List}
 use Prim.Native.Nat.{ℕ}
-use Rattle.model.specs.Refusals.{refusal1, refusal2File}
+use Rattle.model.specs.Refusals.{refusal1, refusal2File, refusalOf}
+use Rattle.model.specs.Answers.{readingOf}
 use Rattle.model.proofs.PartedLaws.{refusal1-long}
 use Rattle.model.proofs.CodecLaws.{readOf-one, readOf-two, readOf-case}
 use Rattle.codec.proofs.read.Statement.{statement}
@@ -67,7 +68,11 @@ reading-of-requires-3 c κs = tt
 returns-3 : tie.Need-returns-3
 returns-3 c =
     let here = c .before .before .before in
-    cc (readOf-case (file2 here) (off1 (here .before .before)) (off2 here))
+    let case = c .before .before .case-of .ensures in
+    let number = c .before .refusal-of .ensures ∙ ap refusalOf case in
+    c .reading-of3 .ensures
+    ∙ (λ j. readingOf (number j) (case j))
+    ∙ readOf-case (file2 here) (off1 (here .before .before)) (off2 here)
 
 pub read-spec : {M : Type 1} → statement M
 read-spec =

@@ -1,6 +1,8 @@
 -- `limits::climbs` meets its contract. The count is within the array, since 2 does not apply; entries are
 -- counted from 1 in the definition. Assumes nothing.
+use mathlib.Core.Bool.{_&&_}
 use native.Mathlib.Omega.{arith}
+use lib.Dec.{leb, eqb}
 use Rattle.model.specs.Limits.{mostStages}
 use Rattle.model.specs.Refusals.{climbs}
 use Rattle.model.proofs.LimitsLaws.{Between, counts}
@@ -32,7 +34,9 @@ unfolding climbs
 returns c =
     let s = c .before .before .before .before .before .before .before .before in
     let case = s .args .case in
-    cc (stage-here (case .rise) 0, stage-last (case .rise) (case .rises) (counted s .0))
+    let end = stage-last (case .rise) (case .rises) (counted s .0) in
+    λ j. leb 1 (stage-here (case .rise) 0 j)
+    && (c .before .before .strict .ensures j && eqb (end j) (case .minimum .0))
 
 pub climbs-spec : {M : Type 1} → statement M
 climbs-spec =

@@ -1,6 +1,8 @@
 -- `limits::descends` meets its contract. The count is within the array, since 2 does not apply; entries are
 -- counted from 1 in the definition. Assumes nothing.
+use mathlib.Core.Bool.{_&&_}
 use native.Mathlib.Omega.{arith}
+use lib.Dec.{leb, eqb}
 use Rattle.model.specs.Limits.{mostStages}
 use Rattle.model.specs.Refusals.{descends}
 use Rattle.model.proofs.LimitsLaws.{Between, counts}
@@ -32,7 +34,9 @@ unfolding descends
 returns c =
     let s = c .before .before .before .before .before .before .before .before in
     let case = s .args .case in
-    cc (stage-here (case .fall) 0, stage-last (case .fall) (case .falls) (counted s .0))
+    let end = stage-last (case .fall) (case .falls) (counted s .0) in
+    λ j. eqb (stage-here (case .fall) 0 j) (case .minimum .0)
+    && (c .before .strict .ensures j && leb 1 (end j))
 
 pub descends-spec : {M : Type 1} → statement M
 descends-spec =

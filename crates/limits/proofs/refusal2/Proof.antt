@@ -1,4 +1,5 @@
 -- `limits::refusal2` meets its contract. The test is the definition's own. Assumes nothing.
+use mathlib.Core.Bool.{_&&_, not}
 use Rattle.model.specs.Refusals.{refusal2}
 use Rattle.limits.proofs.refusal2.Statement.{statement}
 use Rattle.limits.proofs.refusal2.Tie as tie
@@ -14,7 +15,7 @@ counted-requires-3 c κs = tt
 
 returns : tie.Need-returns
 unfolding refusal2
-returns c = cc
+returns c = λ j. not (c .before .before .counted .ensures j && (c .before .counted2 .ensures j && c .counted3 .ensures j))
 
 pub refusal2-spec : {M : Type 1} → statement M
 refusal2-spec = tie.close (tie.spec counted-requires counted-requires-2 counted-requires-3 returns)

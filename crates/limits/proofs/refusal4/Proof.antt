@@ -1,4 +1,5 @@
 -- `limits::refusal4` meets its contract. The test is the definition's own. Assumes nothing.
+use mathlib.Core.Bool.{_&&_, not}
 use Rattle.model.specs.Refusals.{refusal4}
 use Rattle.limits.proofs.refusal4.Statement.{statement}
 use Rattle.limits.proofs.refusal4.Tie as tie
@@ -17,7 +18,10 @@ between-requires-4 c κs = tt
 
 returns : tie.Need-returns
 unfolding refusal4
-returns c = cc
+returns c =
+    let two = c .before .before in
+    λ j. not (two .before .between .ensures j
+    && (two .between2 .ensures j && (c .before .between3 .ensures j && c .between4 .ensures j)))
 
 pub refusal4-spec : {M : Type 1} → statement M
 refusal4-spec =

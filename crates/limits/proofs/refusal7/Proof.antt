@@ -1,4 +1,6 @@
 -- `limits::refusal7` meets its contract. The test is the definition's own. Assumes nothing.
+use mathlib.Core.Bool.{_&&_, _||_, not}
+use lib.Dec.{ltb, eqb}
 use borrow.Author.Needs.{needs}
 use Rattle.model.specs.Refusals.{refusal7}
 use Rattle.limits.proofs.refusal7.Statement.{statement}
@@ -15,7 +17,13 @@ cast-result c = search needs
 
 returns : tie.Need-returns
 unfolding refusal7
-returns c = cc
+returns c =
+    let two = c .before in
+    let case = two .before .before .args .case in
+    let output = case .initial .0 in
+    λ j. not (two .between2 .ensures j)
+    || (not (eqb output 0 || two .before .between .ensures j)
+    || ltb 0 output && ltb (case .elapsed .0) (case .rises))
 
 pub refusal7-spec : {M : Type 1} → statement M
 refusal7-spec = tie.close (tie.spec between-requires between-requires-2 cast-result returns)

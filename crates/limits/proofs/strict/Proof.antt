@@ -47,7 +47,11 @@ loop-again c =
     let at = c .before .before .before .before .before .before .before .before in
     let l = at .loop in
     let outputs = at .before .args .t1 in
-    (omega arith, every-more _ (l .i) (l .inv .1) (cc (stage-here outputs (l .i), stage-next outputs (l .i))))
+    let up = at .before .args .up in (
+      omega arith,
+      every-more _ (l .i) (l .inv .1)
+          (c .way .ensures ∙ (λ j. stepped up (stage-here outputs (l .i) j) (stage-next outputs (l .i) j))),
+    )
 
 returns : tie.Need-returns Inv-loop μ-loop
 returns c =

@@ -1,7 +1,9 @@
 -- `reader::sections::case_of` meets its contract. The sections lie within the file and have lengths that fit; the case
 -- of a file is the case of its sections. Assumes nothing.
+use mathlib.Core.Path.{ap, _∙_}
 use native.Mathlib.Omega.{arith}
 use Rattle.model.proofs.PartedLaws.{Parted, parted}
+use Rattle.reader.specs.Sections.{trajectoryOf, dayOf, assembled}
 use Rattle.reader.proofs.SectionsLaws.{caseOf-sections}
 use Rattle.reader.proofs.sections.case_of.Statement.{statement}
 use Rattle.reader.proofs.sections.case_of.Tie as tie
@@ -45,8 +47,17 @@ read-unit-requires c κs =
 
 returns : tie.Need-returns
 returns c =
-    let s = c .before .before .before .before .before .before .before .before .before in
-    cc (caseOf-sections (s .args .file .now) (whole s))
+    let unit = c .before .section4 .ensures in
+    let three = c .before .before in
+    let day = three .read-day .ensures ∙ ap dayOf (three .before .section3 .ensures) in
+    let two = three .before .before in
+    let fall = two .read-trajectory2 .ensures ∙ ap trajectoryOf (two .before .section2 .ensures) in
+    let one = two .before .before in
+    let rise = one .read-trajectory .ensures ∙ ap trajectoryOf (one .before .section .ensures) in
+    let s = one .before .before .before in
+    c .read-unit .ensures
+    ∙ (λ j. assembled (unit j) (rise j) (fall j) (day j))
+    ∙ caseOf-sections (s .args .file .now) (whole s)
 
 pub case-of-spec : {M : Type 1} → statement M
 case-of-spec =
