@@ -6,6 +6,7 @@ pub mod times;
 
 use crate::limits::above_least;
 use crate::limits::below_most;
+use crate::limits::both;
 use crate::limits::meets_low;
 use crate::limits::within_ramp;
 use crate::times::Since;
@@ -19,8 +20,8 @@ ghost use mathlib.Core.List.{List};
 ghost use Prim.Native.Nat.{ℕ, _<_};
 ghost use Rattle.model.specs.Symbols.{order};
 ghost use Rattle.model.specs.Rules.{brokenOf, brokenAt};
-ghost use Rattle.hours.specs.Sized.{Sized};
-ghost use Rattle.hours.specs.Numbered.{Small, Numbered};
+ghost use Rattle.model.specs.Refusals.{refusalOf};
+ghost use Rattle.hours.specs.Numbered.{Numbered};
 ghost use Rattle.broken.specs.Elapsed.{Elapsed};
 ghost use Rattle.broken.specs.Groups.{Rules, edge, limit, ramp, commitment, overlap, terms};
 
@@ -33,8 +34,6 @@ fn first(kept: bool, number: u8, later: u8) -> u8
 
 // (2) and (4), at hour 0.
 pub fn broken_edge(case: Case, n: Numbers) -> u8
-    requires { ⌜ Sized case ⌝ }
-    requires { ⌜ Small n ⌝ }
     ensures { λ r. ⌜ ((l : List ℕ) (k : ℕ) → Numbered case l k n → r ≡ brokenOf k (edge case l)) ⌝ }
 {
     let four = first(below_most(case.capacity, n, n.shutdown), 4, 0);
@@ -43,8 +42,6 @@ pub fn broken_edge(case: Case, n: Numbers) -> u8
 
 // (1) to (4).
 fn broken_limit(case: Case, n: Numbers, later: u8) -> u8
-    requires { ⌜ Sized case ⌝ }
-    requires { ⌜ Small n ⌝ }
     ensures { λ r. ⌜ ((l : List ℕ) (k : ℕ) (rs : Rules) → Numbered case l k n → later ≡ brokenOf k rs
         → r ≡ brokenOf k (limit case l rs)) ⌝ }
 {
@@ -56,8 +53,6 @@ fn broken_limit(case: Case, n: Numbers, later: u8) -> u8
 
 // (5) and (6).
 fn broken_ramp(case: Case, n: Numbers, later: u8) -> u8
-    requires { ⌜ Sized case ⌝ }
-    requires { ⌜ Small n ⌝ }
     ensures { λ r. ⌜ ((l : List ℕ) (k : ℕ) (rs : Rules) → Numbered case l k n → later ≡ brokenOf k rs
         → r ≡ brokenOf k (ramp case l rs)) ⌝ }
 {
@@ -84,30 +79,25 @@ fn broken_ramp(case: Case, n: Numbers, later: u8) -> u8
 
 // (7) to (9).
 fn broken_commitment(n: Numbers, later: u8) -> u8
-    requires { ⌜ Small n ⌝ }
     ensures { λ r. ⌜ ((c : Case) (l : List ℕ) (k : ℕ) (rs : Rules) → Numbered c l k n → later ≡ brokenOf k rs
         → r ≡ brokenOf k (commitment c l rs)) ⌝ }
 {
     let marks = n.marks;
     let nine = first(n.shutdown.marks <= marks.online, 9, later);
     let eight = first(n.startup.marks <= marks.online, 8, nine);
-    first(
-        marks.start + marks.wasonline == marks.online + marks.stop,
-        7,
-        eight,
-    )
+    let before = both(marks.start, marks.wasonline);
+    first(before == both(marks.online, marks.stop), 7, eight)
 }
 
 // (10) to (12).
 fn broken_overlap(case: Case, n: Numbers, later: u8) -> u8
-    requires { ⌜ Sized case ⌝ }
-    requires { ⌜ Small n ⌝ }
+    requires { ⌜ refusalOf case ≡ 0 ⌝ }
     ensures { λ r. ⌜ ((l : List ℕ) (k : ℕ) (rs : Rules) → Numbered case l k n → later ≡ brokenOf k rs
         → r ≡ brokenOf k (overlap case l rs)) ⌝ }
 {
     let met = meets_low(case.minimum, n);
     let eleven = first(met, 11, first(met, 12, later));
-    first(n.marks.start + n.meeting <= 1, 10, eleven)
+    first(both(n.marks.start, n.meeting) <= 1, 10, eleven)
 }
 
 // 21 to 23.
@@ -127,8 +117,7 @@ fn broken_terms(case: Case, n: Numbers, since: Since, wanted: u8) -> u8
 
 // The lowest rule that hour k breaks, from hour 1 on, with its order.
 pub fn broken_at(case: Case, n: Numbers, since: Since, wanted: u8) -> u8
-    requires { ⌜ Sized case ⌝ }
-    requires { ⌜ Small n ⌝ }
+    requires { ⌜ refusalOf case ≡ 0 ⌝ }
     ensures { λ r. ⌜ ((l : List ℕ) (k : ℕ) → 0 < k → Numbered case l k n → Elapsed case l k since
         → wanted ≡ order case k → r ≡ brokenAt case l k) ⌝ }
 {

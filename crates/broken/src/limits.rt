@@ -1,46 +1,55 @@
 // The comparisons of constraints (1) to (6), (11) and (12), each for the constraints that differ in what is compared
-// (model's specs/Constraints). A listed output may be any 16-bit number, so two are added in more bits.
+// (specs/Compared). A listed output may be any 16-bit number, so megawatts are added up in more bits, where no sum of
+// outputs and of counts of marks wraps.
 use hours::Numbers;
 use hours::stages::Sequence;
-use hours::stages::plus;
-use hours::stages::scaled;
 use model::Output;
 ghost use mathlib.Core.Path.{_≡_};
-ghost use Prim.Native.Nat.{_+_, _*_, _≤_};
-ghost use lib.Dec.{leb};
-ghost use Rattle.hours.specs.Numbered.{Small};
+ghost use Prim.Native.Nat.{_+_, _*_, _≤_, _<_};
+ghost use Rattle.model.specs.Limits.{words};
+ghost use Rattle.broken.specs.Compared.{aboveLeast, belowMost, withinRamp, meetsLow};
 
-// Whether two outputs together are at most two others.
-fn at_most(a: Output, b: Output, c: Output, d: Output) -> bool
-    ensures { λ r. ⌜ r ≡ leb (a .0 + b .0) (c .0 + d .0) ⌝ }
+// Two counts of marks together.
+pub fn both(a: u8, b: u8) -> u16
+    ensures { λ r. ⌜ r ≡ a + b ⌝ }
 {
-    (a.0 as u32) + (b.0 as u32) <= (c.0 as u32) + (d.0 as u32)
+    (a as u16) + (b as u16)
 }
 
-// (1) and (2): the least output, by the sequence that prescribes one.
+// An output in more bits.
+fn wide(output: Output) -> u64
+    ensures { λ r. ⌜ (r ≡ output .0) × (r < words) ⌝ }
+{
+    output.0 as u64
+}
+
+// An output, so many times.
+fn times(output: Output, n: u8) -> u64
+    ensures { λ r. ⌜ (r ≡ output .0 * n) × (r ≤ words * 256) ⌝ }
+{
+    (output.0 as u64) * (n as u64)
+}
+
+// An output, as often as two counts say together.
+fn times_both(output: Output, a: u8, b: u8) -> u64
+    ensures { λ r. ⌜ (r ≡ output .0 * (a + b)) × (r ≤ 2 * (words * 256)) ⌝ }
+{
+    times(output, a) + times(output, b)
+}
+
 pub fn above_least(low: Output, n: Numbers, s: Sequence) -> bool
-    requires { ⌜ (low .0 ≤ 400) × Small n ⌝ }
-    ensures { λ r. ⌜ r ≡ leb (low .0 * n .marks .online + s .output .0)
-        (n .output .0 + low .0 * (n .shutdown .marks + n .startup .marks)) ⌝ }
+    ensures { λ r. ⌜ r ≡ aboveLeast (low .0) n s ⌝ }
 {
-    let inside = scaled(low, n.shutdown.marks + n.startup.marks);
-    at_most(scaled(low, n.marks.online), s.output, n.output, inside)
+    let inside = times_both(low, n.shutdown.marks, n.startup.marks);
+    times(low, n.marks.online) + wide(s.output) <= wide(n.output) + inside
 }
 
-// (3) and (4): the greatest output, by the sequence that prescribes one.
 pub fn below_most(high: Output, n: Numbers, s: Sequence) -> bool
-    requires { ⌜ (high .0 ≤ 400) × Small n × (s .marks ≤ 8) ⌝ }
-    ensures { λ r. ⌜ r ≡ leb (n .output .0 + high .0 * s .marks) (s .output .0 + high .0 * n .marks .online) ⌝ }
+    ensures { λ r. ⌜ r ≡ belowMost (high .0) n s ⌝ }
 {
-    at_most(
-        n.output,
-        scaled(high, s.marks),
-        s.output,
-        scaled(high, n.marks.online),
-    )
+    wide(n.output) + times(high, s.marks) <= wide(s.output) + times(high, n.marks.online)
 }
 
-// (5) and (6): the ramp from the lower output to the higher, waived in the hours of a sequence.
 pub fn within_ramp(
     high: Output,
     ramp: Output,
@@ -49,22 +58,14 @@ pub fn within_ramp(
     waived: u8,
     online: u8,
 ) -> bool
-    requires { ⌜ (high .0 ≤ 400) × (ramp .0 ≤ 400) × (waived ≤ 8) × (online ≤ 1) ⌝ }
-    ensures { λ r. ⌜ r ≡ leb (higher .0 + ramp .0 * waived) (lower .0 + (high .0 * waived + ramp .0 * online)) ⌝ }
+    ensures { λ r. ⌜ r ≡ withinRamp (high .0) (ramp .0) (lower .0) (higher .0) waived online ⌝ }
 {
-    let most = plus(scaled(high, waived), scaled(ramp, online));
-    at_most(higher, scaled(ramp, waived), lower, most)
+    let most = times(high, waived) + times(ramp, online);
+    wide(higher) + times(ramp, waived) <= wide(lower) + most
 }
 
-// (11) and (12): a start-up and a shut-down meet at the minimum output, where PU ends and PD begins.
 pub fn meets_low(low: Output, n: Numbers) -> bool
-    requires { ⌜ (low .0 ≤ 400) × Small n ⌝ }
-    ensures { λ r. ⌜ r ≡ leb (low .0 * (n .shutdown .marks + n .startup .marks) + 0) (n .output .0 + low .0) ⌝ }
+    ensures { λ r. ⌜ r ≡ meetsLow (low .0) n ⌝ }
 {
-    at_most(
-        scaled(low, n.shutdown.marks + n.startup.marks),
-        Output(0),
-        n.output,
-        low,
-    )
+    times_both(low, n.shutdown.marks, n.startup.marks) <= wide(n.output) + wide(low)
 }

@@ -6,10 +6,11 @@ use model::Hour;
 ghost use mathlib.Core.Path.{_≡_};
 ghost use mathlib.Core.Bool.{_&&_, _||_};
 ghost use mathlib.Core.List.{List};
-ghost use Prim.Native.Nat.{ℕ, _<_};
+ghost use Prim.Native.Nat.{ℕ, _+_, _<_};
 ghost use lib.Dec.{leb, eqb};
-ghost use Rattle.hours.specs.Sized.{Sized};
-ghost use Rattle.broken.specs.Elapsed.{Later, Elapsed, Passed};
+ghost use Rattle.model.specs.Limits.{words};
+ghost use Rattle.hours.specs.Numbered.{Numbered};
+ghost use Rattle.broken.specs.Elapsed.{Held, Elapsed};
 
 // At an hour: the hours since the latest start before it, and since the latest stop; with none, h and the hours passed.
 pub struct Since {
@@ -19,7 +20,6 @@ pub struct Since {
 
 // At hour 1.
 pub fn opening(case: Case) -> Since
-    requires { ⌜ Sized case ⌝ }
     ensures { λ r. ⌜ ((l : List ℕ) → Elapsed case l 1 r) ⌝ }
 {
     let held = case.elapsed;
@@ -31,20 +31,18 @@ pub fn opening(case: Case) -> Since
 
 // Hours since a mark, at the next hour.
 fn later(hours: Hour, mark: u8) -> Hour
-    requires { ⌜ hours .0 < 65535 ⌝ }
-    ensures { λ r. ⌜ Later (hours .0) mark (r .0) ⌝ }
+    requires { ⌜ hours .0 + 1 < words ⌝ }
+    ensures { λ r. ⌜ ((c : Case) (f : ℕ → ℕ) (k : ℕ) → 0 < k → mark ≡ f k → Held c f k (hours .0)
+        → Held c f (k + 1) (r .0)) ⌝ }
 {
-    if mark == 1 {
-        Hour(1)
-    } else {
-        Hour(hours.0 + 1)
-    }
+    if mark == 1 { Hour(1) } else { hours.next() }
 }
 
-// At the hour after the one whose numbers are given.
+// At the hour after hour k, whose numbers are given.
 pub fn passed(since: Since, n: Numbers) -> Since
-    requires { ⌜ (since .start .0 < 65535) × (since .stop .0 < 65535) ⌝ }
-    ensures { λ r. ⌜ Passed since n r ⌝ }
+    requires { ⌜ (since .start .0 + 1 < words) × (since .stop .0 + 1 < words) ⌝ }
+    ensures { λ r. ⌜ ((c : Case) (l : List ℕ) (k : ℕ) → 0 < k → Numbered c l k n → Elapsed c l k since
+        → Elapsed c l (k + 1) r) ⌝ }
 {
     let start = later(since.start, n.marks.start);
     let stop = later(since.stop, n.marks.stop);

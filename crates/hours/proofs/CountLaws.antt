@@ -1,17 +1,16 @@
 -- Running counts: a sum of marks is the difference of two of them. Assumes nothing.
-use mathlib.Core.Path.{_≡_, refl, sym, ap, _∙_}
+use mathlib.Core.Path.{_≡_, refl, sym, ap, _∙_, subst}
 use mathlib.Core.List.{List}
 use Prim.Native.Nat.{ℕ, zero, suc, _+_, _-_, _≤_, _<_}
 use native.Mathlib.Numerals.{add-one}
 use native.Mathlib.Omega.{arith}
-use lib.ListN.{length, getD, set, replicate, length-set}
+use lib.ListN.{length, getD, set, replicate, length-set, length-replicate}
 use lib.Seq.{getD-set-same, getD-set-other}
 use native.Mathlib.Decide.{ℕ-discrete}
 use Rattle.model.specs.Symbols.{sum}
 use Rattle.model.proofs.SymbolsLaws.{sum-suc}
 use Rattle.model.proofs.ConstraintsLaws.{sum-zero}
-use Rattle.hours.specs.Within.{Within}
-use Rattle.hours.specs.Counted.{counted, Running}
+use Rattle.hours.specs.Counted.{countsLength, lastCount, counted, Running}
 
 module _ (f : ℕ → ℕ) where
   pub counted-zero : counted f 0 ≡ 0
@@ -60,40 +59,62 @@ module _ (f : ℕ → ℕ) where
 module _ {f : ℕ → ℕ} where
   -- the marks from hour a to before hour b
   pub running-between : {n : ℕ} {xs : List ℕ} → Running f n xs → (a b : ℕ) → a ≤ b → b ≤ n
-      → (getD xs a 0 ≤ getD xs b 0) × Within (counted f b - counted f a) (b - a) (getD xs b 0 - getD xs a 0)
+      → (getD xs a 0 ≤ getD xs b 0) × (getD xs b 0 - getD xs a 0 ≡ counted f b - counted f a)
   running-between r a b h m =
       let at-a = r .at a (omega arith) in
       let at-b = r .at b m in
       let same : counted f (a + (b - a)) ≡ counted f b = ap (counted f) (omega arith) in
       let apart = counted-apart f (r .once) a (b - a) in
-      (omega arith, record { is = omega arith; most = omega arith })
+      (omega arith, omega arith)
 
-  -- the counts as they are written, place by place, over zeros
-  pub running-start : {xs : List ℕ} → xs ≡ replicate 64 0 → f 0 ≡ 0 → ((k : ℕ) → f k ≤ 1) → Running f 1 xs
-  running-start {xs} e o u = record { long = ap length e ∙ refl; none = o; once = u; at = at }
+-- x marks of f before hour k, and the places up to place k, as they are written over zeros
+pub record Counting (f : ℕ → ℕ) (k x : ℕ) (xs : List ℕ) : Type 0 where
+  pub here : x ≡ counted f k
+  pub places : Running f k xs
+
+module _ {f : ℕ → ℕ} where
+  pub counting-start : {xs : List ℕ} → xs ≡ replicate countsLength 0 → f 0 ≡ 0 → ((k : ℕ) → f k ≤ 1)
+      → Counting f 1 0 xs
+  counting-start {xs} e o u =
+      record {
+        here = omega (arith, counted-zero f, counted-more f 0);
+        places = record { long = ap length e ∙ length-replicate {A = ℕ} countsLength 0; none = o; once = u; at = at };
+      }
     where
       at : (k : ℕ) → k ≤ 1 → getD xs k 0 ≡ counted f k
       at zero m = ap (λ l. getD l 0 0) e ∙ sym (counted-zero f)
       at (suc zero) m = ap (λ l. getD l 1 0) e ∙ omega (arith, counted-zero f, counted-more f 0)
       at (suc (suc k)) m = absurd (omega arith)
 
-  pub running-step : {n : ℕ} {xs : List ℕ} (x : ℕ) → Running f n xs → n < 63 → x ≡ counted f (n + 1)
-      → Running f (n + 1) (set xs (n + 1) x)
-  running-step {n} {xs} x r h e =
-      record {
-        long = length-set xs (n + 1) x ∙ r .long;
-        none = r .none;
-        once = r .once;
-        at = λ k m. go k m (ℕ-discrete k (n + 1));
-      }
-    where
-      go : (k : ℕ) → k ≤ n + 1 → Dec (k ≡ n + 1) → getD (set xs (n + 1) x) k 0 ≡ counted f k
-      go k m (yes q) =
-          let room : n + 1 < length xs = omega (arith, r .long) in
-          ap (λ i. getD (set xs (n + 1) x) i 0) q ∙ getD-set-same xs (n + 1) x 0 room ∙ e ∙ ap (counted f) (sym q)
-      go k m (no q) = getD-set-other xs (n + 1) k x 0 q ∙ r .at k (omega arith)
+  module _ {k x : ℕ} {xs : List ℕ} (c : Counting f k x xs) where
+    pub counting-step : (m : ℕ) → k < lastCount → m ≡ f k → Counting f (k + 1) (x + m) (set xs (k + 1) (x + m))
+    counting-step m h e =
+        record {
+          here = here;
+          places = record {
+            long = length-set xs (k + 1) (x + m) ∙ c .places .long;
+            none = c .places .none;
+            once = c .places .once;
+            at = λ i l. go i l (ℕ-discrete i (k + 1));
+          };
+        }
+      where
+        here : x + m ≡ counted f (k + 1)
+        here = omega (arith, c .here, counted-more f k)
 
-  pub counted-most : ((k : ℕ) → f k ≤ 1) → (k : ℕ) → counted f k ≤ k
-  counted-most once k =
-      let from : counted f (0 + k) ≡ counted f k = ap (counted f) (omega arith) in
-      omega (arith, counted-apart f once 0 k, counted-zero f)
+        go : (i : ℕ) → i ≤ k + 1 → Dec (i ≡ k + 1) → getD (set xs (k + 1) (x + m)) i 0 ≡ counted f i
+        go i l (yes q) =
+            let room : k + 1 < length xs = omega (arith, c .places .long) in
+            ap (λ j. getD (set xs (k + 1) (x + m)) j 0) q
+            ∙ getD-set-same xs (k + 1) (x + m) 0 room
+            ∙ here
+            ∙ ap (counted f) (sym q)
+        go i l (no q) = getD-set-other xs (k + 1) i (x + m) 0 q ∙ c .places .at i (omega arith)
+
+    pub counting-few : x ≤ k
+    counting-few =
+        let from : counted f (0 + k) ≡ counted f k = ap (counted f) (omega arith) in
+        omega (arith, c .here, counted-apart f (c .places .once) 0 k, counted-zero f)
+
+    pub counting-end : k ≡ lastCount → Running f lastCount xs
+    counting-end e = subst (λ n. Running f n xs) e (c .places)

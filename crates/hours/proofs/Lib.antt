@@ -1,6 +1,7 @@
--- Laws of the marks of an hour, of running counts, and of sums.
+-- Laws of the marks of an hour, of running counts, of trajectories, and of sums.
 pub mod MarkLaws
 pub mod CountLaws
 pub mod MarkingLaws
+pub mod StagedLaws
 pub mod NumbersLaws
 pub mod SumLaws

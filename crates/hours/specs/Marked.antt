@@ -3,9 +3,6 @@ use mathlib.Core.Path.{_≡_}
 use mathlib.Core.List.{List}
 use Prim.Native.Nat.{ℕ, _≤_, _<_}
 use lib.ListN.{length, getD}
-use Rattle.model.specs.declared.Case.{Case}
-use Rattle.model.specs.Symbols.{before}
-use Rattle.model.specs.Marks.{v, y, z}
 use Rattle.hours.specs.declared.marks.Marks.{Marks}
 
 -- r is 1 where the unit is on-line at output p, else 0
@@ -26,13 +23,6 @@ pub record Marked (q p : ℕ) (m : Marks) : Type 0 where
   pub wasonline : Online q (m .wasonline)
   pub start : Began (m .wasonline) (m .online) (m .start)
   pub stop : Began (m .online) (m .wasonline) (m .stop)
-
--- they are v(k), v(k−1), y(k) and z(k) of a list
-pub record MarksAt (c : Case) (l : List ℕ) (k : ℕ) (m : Marks) : Type 0 where
-  pub online : m .online ≡ v c l k
-  pub wasonline : m .wasonline ≡ v c l (before k)
-  pub start : m .start ≡ y c l k
-  pub stop : m .stop ≡ z c l k
 
 -- r is the output at place i of a list; past its end, that of the hour before
 pub record Next (l : List ℕ) (i was r : ℕ) : Type 0 where

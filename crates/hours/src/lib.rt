@@ -7,7 +7,6 @@ pub mod stages;
 
 use crate::counts::COUNTS;
 use crate::counts::between;
-use crate::counts::less;
 use crate::marks::Marks;
 use crate::marks::marks_of;
 use crate::marks::output_at;
@@ -16,8 +15,9 @@ use crate::stages::sequence_at;
 use model::Case;
 use model::Hour;
 use model::Output;
+ghost use mathlib.Core.Path.{_≡_};
 ghost use Prim.Native.Nat.{_≤_};
-ghost use Rattle.hours.specs.Sized.{Sized};
+ghost use Rattle.model.specs.Refusals.{refusalOf};
 ghost use Rattle.hours.specs.Counted.{Counted};
 ghost use Rattle.hours.specs.Numbered.{Numbered};
 
@@ -43,7 +43,7 @@ pub fn numbers_at(
     stops: &[u8; COUNTS],
     k: Hour,
 ) -> Numbers
-    requires { ⌜ Sized case ⌝ }
+    requires { ⌜ refusalOf case ≡ 0 ⌝ }
     requires { ⌜ k .0 ≤ case .hours ⌝ }
     requires { ⌜ Counted case (now list) (now starts) (now stops) ⌝ }
     ensures { λ r. ⌜ Numbered case (now (list .entry)) (k .0) r ⌝ }
@@ -56,7 +56,7 @@ pub fn numbers_at(
     let fallen = Hour(at + falls);
     let met = Hour(at + rises + falls - 1);
     let output = output_at(case, list, k);
-    let earlier = output_at(case, list, less(k, Hour(1)));
+    let earlier = output_at(case, list, k.less(Hour(1)));
     let marks = marks_of(earlier, output);
     let startup = sequence_at(rise, case.rises, starts, k);
     let shutdown = sequence_at(fall, case.falls, stops, fallen);

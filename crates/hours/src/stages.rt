@@ -1,16 +1,14 @@
 // What a trajectory prescribes in an hour (model's specs/Constraints).
 use crate::counts::COUNTS;
 use crate::counts::between;
-use crate::counts::less;
 use model::Hour;
 use model::Output;
 use model::STAGES;
 ghost use mathlib.Core.Path.{_≡_};
-ghost use Prim.Native.Nat.{ℕ, _+_, _*_, _≤_, _<_};
-ghost use Rattle.hours.specs.Within.{Within};
-ghost use Rattle.hours.specs.Sized.{Staged};
-ghost use Rattle.hours.specs.Counted.{Running};
-ghost use Rattle.hours.specs.Sequenced.{Sequenced};
+ghost use Prim.Native.Nat.{ℕ, _*_, _≤_, _<_};
+ghost use Rattle.hours.specs.Staged.{Staged};
+ghost use Rattle.hours.specs.Counted.{lastCount, Running};
+ghost use Rattle.hours.specs.Numbered.{sequenceAt};
 
 // Of an hour: the starts or stops whose start-up or shut-down it lies in, and the output that these prescribe.
 pub struct Sequence {
@@ -18,31 +16,23 @@ pub struct Sequence {
     pub output: Output,
 }
 
-// An output, so many times.
-pub fn scaled(output: Output, times: u8) -> Output
-    requires { ⌜ (output .0 ≤ 400) × (times ≤ 16) ⌝ }
-    ensures { λ r. ⌜ Within (output .0 * times) 6400 (r .0) ⌝ }
+// An output where its hour is marked, else 0.
+fn marked(output: Output, mark: u8) -> Output
+    requires { ⌜ mark ≤ 1 ⌝ }
+    ensures { λ r. ⌜ (r .0 ≡ output .0 * mark) × (r .0 ≤ output .0) ⌝ }
 {
-    Output(output.0 * (times as u16))
-}
-
-// Two outputs together.
-pub fn plus(a: Output, b: Output) -> Output
-    requires { ⌜ a .0 + b .0 < 65536 ⌝ }
-    ensures { λ r. ⌜ r .0 ≡ a .0 + b .0 ⌝ }
-{
-    Output(a.0 + b.0)
+    if mark == 0 { Output(0) } else { output }
 }
 
 // The sequence of a trajectory of n outputs and of marks, at the n hours up to hour k.
 pub fn sequence_at(stages: [Output; STAGES], n: usize, counts: &[u8; COUNTS], k: Hour) -> Sequence
     requires { ⌜ Staged stages n ⌝ }
-    requires { ⌜ k .0 ≤ 56 ⌝ }
-    requires { ⌜ ((f : ℕ → ℕ) × Running f 63 (now counts)) ⌝ }
-    ensures { λ r. ⌜ ((f : ℕ → ℕ) → Running f 63 (now (counts .entry)) → Sequenced f stages n (k .0) r) ⌝ }
+    requires { ⌜ k .0 < lastCount ⌝ }
+    requires { ⌜ ((f : ℕ → ℕ) × Running f lastCount (now counts)) ⌝ }
+    ensures { λ r. ⌜ ((f : ℕ → ℕ) → Running f lastCount (now (counts .entry)) → r ≡ sequenceAt f stages n (k .0)) ⌝ }
 {
-    let mut hour = Hour(k.0 + 1);
-    let marks = between(counts, less(hour, Hour(n as u16)), hour);
+    let mut hour = k.next();
+    let marks = between(counts, hour.less(Hour(n as u16)), hour);
     let mut total = Output(0);
     if marks == 0 {
         return Sequence {
@@ -52,9 +42,9 @@ pub fn sequence_at(stages: [Output; STAGES], n: usize, counts: &[u8; COUNTS], k:
     }
     let mut i = 0;
     while i < n {
-        hour = less(hour, Hour(1));
-        let mark = between(counts, hour, Hour(hour.0 + 1));
-        total = plus(total, scaled(stages[i], mark));
+        hour = hour.less(Hour(1));
+        let mark = between(counts, hour, hour.next());
+        total = total.plus(marked(stages[i], mark));
         i += 1;
     }
     Sequence {

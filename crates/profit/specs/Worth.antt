@@ -4,7 +4,6 @@ use mathlib.Core.List.{List}
 use Prim.Native.Nat.{ℕ, _+_, _*_, _-_, _≤_, _<_}
 use lib.IntN.{ℤ, pos, natAbs, _-ℤ_}
 use Rattle.model.specs.declared.Case.{Case}
-use Rattle.model.specs.Limits.{mostHours, mostVariable, mostCharge}
 use Rattle.model.specs.Symbols.{A, B, C, F, last, price}
 use Rattle.model.specs.Marks.{p}
 use Rattle.hours.specs.declared.marks.Marks.{Marks}
@@ -13,14 +12,6 @@ use Rattle.hours.specs.declared.marks.Marks.{Marks}
 pub record Worth (z : ℤ) (n : ℕ) (r : ℤ) : Type 0 where
   pub is : r ≡ z
   pub most : natAbs r ≤ n
-
--- the hours and the money of a case within the limits
-pub record Priced (c : Case) : Type 0 where
-  pub hours : c .hours ≤ mostHours
-  pub variable : c .variable ≤ mostVariable
-  pub fixed : c .fixed ≤ mostCharge
-  pub startcost : c .startcost ≤ mostCharge
-  pub stopcost : c .stopcost ≤ mostCharge
 
 -- what an hour costs beside F by its marks, in half-mills
 abbrev pub chargeOf : Case → Marks → ℕ

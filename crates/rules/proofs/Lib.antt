@@ -1,3 +1,2 @@
 -- Laws that the proofs of the check share.
 pub mod BreachLaws
-pub mod LimitedLaws

@@ -12,14 +12,14 @@ use model::Case;
 use model::Hour;
 ghost use mathlib.Core.Path.{_≡_};
 ghost use lib.ListN.{length};
+ghost use Rattle.model.specs.Refusals.{refusalOf};
 ghost use Rattle.model.specs.Rules.{breachFrom, breach};
-ghost use Rattle.hours.specs.Sized.{Sized};
 ghost use Rattle.hours.specs.Counted.{Counted};
 ghost use Rattle.rules.specs.Found.{found};
 
 // The first breach of the hours from 1 on; its rule is 0 where there is none.
 fn later_breach(case: Case, list: &[u16], starts: &[u8; COUNTS], stops: &[u8; COUNTS]) -> Breach
-    requires { ⌜ Sized case ⌝ }
+    requires { ⌜ refusalOf case ≡ 0 ⌝ }
     requires { ⌜ Counted case (now list) (now starts) (now stops) ⌝ }
     ensures { λ r. ⌜ breachFrom case (now (list .entry)) 1 (case .hours) ≡ found r ⌝ }
 {
@@ -48,7 +48,7 @@ fn later_breach(case: Case, list: &[u16], starts: &[u8; COUNTS], stops: &[u8; CO
 
 // The first breach of the day, for a list of T outputs; its rule is 0 where there is none.
 pub fn first_breach(case: Case, list: &[u16]) -> Breach
-    requires { ⌜ Sized case ⌝ }
+    requires { ⌜ refusalOf case ≡ 0 ⌝ }
     requires { ⌜ length (now list) ≡ case .hours ⌝ }
     ensures { λ r. ⌜ breach case (now (list .entry)) ≡ found r ⌝ }
 {

@@ -2,6 +2,7 @@
 -- Assumes nothing.
 use borrow.Author.Needs.{needs}
 use mathlib.Core.Path.{_∙_}
+use Rattle.model.proofs.LimitsLaws.{limits-of-refusalOf}
 use Rattle.broken.proofs.FirstLaws.{rest, next, tried}
 use Rattle.broken.proofs.NumbersLaws.{rule10-of, rule11-of, rule12-of}
 use Rattle.broken.proofs.broken_overlap.Statement.{statement}
@@ -16,8 +17,8 @@ first-requires c κs = search needs
 first-requires-2 : tie.Need-first-requires-2
 first-requires-2 c κs = search needs
 
-add-first : tie.Need-add-first
-add-first c = search needs
+both-requires : tie.Need-both-requires
+both-requires c κs = search needs
 
 first-requires-3 : tie.Need-first-requires-3
 first-requires-3 c κs = search needs
@@ -27,11 +28,12 @@ returns c =
     let eleven = c .before .before in
     let twelve = eleven .before in
     let met = twelve .before .meets-low .ensures in
-    let sized = twelve .before .before .pre .0 in
+    let start = twelve .before .before in
+    let limits = limits-of-refusalOf (start .args .case) (start .pre) in
     λ l k rs h e. tried
-    (next (c .first3 .ensures) (rule10-of h)
-    (next (eleven .first2 .ensures) (met ∙ rule11-of h sized)
-    (next (twelve .first .ensures) (met ∙ rule12-of h sized) (rest e))))
+    (next (c .first3 .ensures) (rule10-of h (c .before .both .ensures))
+    (next (eleven .first2 .ensures) (met ∙ rule11-of h limits)
+    (next (twelve .first .ensures) (met ∙ rule12-of h limits) (rest e))))
 
 pub broken-overlap-spec : {M : Type 1} → statement M
 broken-overlap-spec =
@@ -40,6 +42,6 @@ broken-overlap-spec =
     meets-low-requires
     first-requires
     first-requires-2
-    add-first
+    both-requires
     first-requires-3
     returns)

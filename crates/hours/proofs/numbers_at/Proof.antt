@@ -4,34 +4,42 @@ use native.Mathlib.Omega.{arith}
 use mathlib.Core.Path.{_≡_, _∙_, sym, ap}
 use Prim.Native.Nat.{_+_, _-_}
 use Rattle.model.specs.Marks.{p, y, z}
-use Rattle.model.proofs.ConstraintsLaws.{starting-is, startOutput-is, stopOutput-is}
+use Rattle.model.proofs.LimitsLaws.{Limits, limits-of-refusalOf}
 use Rattle.model.proofs.CheckLaws.{before-is}
 use Rattle.hours.specs.Counted.{counted}
+use Rattle.hours.proofs.StagedLaws.{staged-rise, staged-fall}
 use Rattle.hours.proofs.MarkLaws.{marks-at}
-use Rattle.hours.proofs.NumbersLaws.{stops-are, stopping-are}
+use Rattle.hours.proofs.NumbersLaws.{megawatts, numbers-of, stops-are, startup-is, shutdown-is}
 use Rattle.hours.proofs.numbers_at.Statement.{statement}
 use Rattle.hours.proofs.numbers_at.Tie as tie
 
+abbrev first : tie.After-fall → tie.Start
+first c = c .before .before .before .before .before
+
 abbrev start : tie.After-marks-of → tie.Start
-start c = c .before .before .before .before .before .before .before .before .before
+start c = first (c .before .before .before .before)
+
+-- the case keeps the limits
+limits : (s : tie.Start) → Limits (s .args .case)
+limits s = limits-of-refusalOf (s .args .case) (s .pre .0)
 
 cast-rises : tie.Need-cast-rises
-cast-rises c = search needs
+cast-rises c = omega (arith, limits (c .before .before) .rises-le)
 
 cast-falls : tie.Need-cast-falls
-cast-falls c = search needs
+cast-falls c = omega (arith, limits (c .before .before .before) .falls-le)
 
 add-t18 : tie.Need-add-t18
-add-t18 c = search needs
+add-t18 c = let h = limits (first c) in omega (arith, h .hours-le, h .falls-le, first c .pre .1 .0)
 
 add-t18-2 : tie.Need-add-t18-2
-add-t18-2 c = search needs
+add-t18-2 c = let h = limits (first c) in omega (arith, h .hours-le, h .rises-le, first c .pre .1 .0)
 
 add-t19 : tie.Need-add-t19
-add-t19 c = search needs
+add-t19 c = let h = limits (first c) in omega (arith, h .hours-le, h .rises-le, h .falls-le, first c .pre .1 .0)
 
 sub-t20 : tie.Need-sub-t20
-sub-t20 c = search needs
+sub-t20 c = omega (arith, limits (first c) .rises-pos)
 
 output-at-requires : tie.Need-output-at-requires
 output-at-requires c κs = search needs
@@ -48,28 +56,29 @@ marks-of-requires c κs = search needs
 sequence-at-requires : tie.Need-sequence-at-requires
 sequence-at-requires c κs =
     let s = start c in
-    let (sized, (hour, counted)) = s .pre in
-    (sized .rise, (omega (arith, sized .hours), (y (s .args .case) (s .args .list .now), counted .starts)))
+    let h = limits s in
+    (staged-rise h, (omega (arith, h .hours-le), (y (s .args .case) (s .args .list .now), s .pre .1 .1 .starts)))
 
 sequence-at-requires-2 : tie.Need-sequence-at-requires-2
 sequence-at-requires-2 c κs =
     let s = start (c .before) in
-    let (sized, (hour, counted)) = s .pre in
-    let most = sized .fall .count in
-    (sized .fall, (omega (arith, sized .hours), (z (s .args .case) (s .args .list .now), counted .stops)))
+    let h = limits s in (
+      staged-fall h,
+      (omega (arith, h .hours-le, h .falls-le), (z (s .args .case) (s .args .list .now), s .pre .1 .1 .stops)),
+    )
 
 between-requires : tie.Need-between-requires
 between-requires c κs =
     let s = start (c .before .before) in
-    let (sized, (hour, counted)) = s .pre in
-    (omega (arith, sized .hours, sized .fall .count), (z (s .args .case) (s .args .list .now), counted .stops))
+    let h = limits s in
+    (omega (arith, h .hours-le, h .falls-le), (z (s .args .case) (s .args .list .now), s .pre .1 .1 .stops))
 
 between-requires-2 : tie.Need-between-requires-2
 between-requires-2 c κs =
     let s = start (c .before .before .before) in
-    let (sized, (hour, counted)) = s .pre in (
-      omega (arith, sized .hours, sized .fall .count, sized .rise .count, sized .rise .some),
-      (z (s .args .case) (s .args .list .now), counted .stops),
+    let h = limits s in (
+      omega (arith, h .hours-le, h .falls-le, h .rises-le, h .rises-pos),
+      (z (s .args .case) (s .args .list .now), s .pre .1 .1 .stops),
     )
 
 returns : tie.Need-returns
@@ -83,39 +92,21 @@ returns c =
     let case = s .args .case in
     let l = s .args .list .now in
     let k = s .args .k .0 in
-    let (sized, (hour, counts)) = s .pre in
-    let earlier : was .output-at2 .result .0 ≡ p case l (k - 1) =
+    let (_, (hour, counts)) = s .pre in
+    let at-k = is .output-at .ensures in
+    let before-k : was .output-at2 .result .0 ≡ p case l (k - 1) =
     was .output-at2 .ensures ∙ ap (p case l) (was .before .less .ensures) in
-    let output = is .output-at .ensures in
     let n = case .rises + case .falls - 1 in
-    let met : k + case .rises + case .falls - 1 ≡ k + n = omega (arith, sized .rise .some) in
-    let m = marks .marks-of .ensures in
-    let start = up .sequence-at .ensures (y case l) (counts .starts) in
-    let stop = shut .sequence-at2 .ensures (z case l) (counts .stops) in
-    let falling = c .before .between .ensures (z case l) (counts .stops) in
-    let meeting = c .between2 .ensures (z case l) (counts .stops) in
-    record {
-      small = record {
-        online = m .online .most;
-        wasonline = m .wasonline .most;
-        start = omega (arith, m .start .most, m .online .most);
-        stop = omega (arith, m .stop .most, m .wasonline .most);
-        starting = omega (arith, start .most, sized .rise .count);
-        stopping = omega (arith, stop .most, sized .fall .count);
-        falling = omega (arith, falling .most, sized .fall .count);
-        meeting = omega (arith, meeting .most, sized .fall .count, sized .rise .count);
-      };
-      output = output;
-      earlier = earlier ∙ ap (p case l) (sym (before-is k));
-      marks = marks-at case l k hour earlier output m;
-      starting = start .marks ∙ sym (starting-is case l k);
-      stopping = stop .marks ∙ stopping-are case l k;
-      startoutput = start .output ∙ sym (startOutput-is case l k);
-      stopoutput = stop .output ∙ sym (stopOutput-is case l k);
-      falling = falling .is ∙ stops-are case l k (case .falls);
-      meeting = meeting .is ∙ ap (λ j. counted (z case l) j - counted (z case l) k) met
-          ∙ stops-are case l k n;
-    }
+    let met : k + case .rises + case .falls - 1 ≡ k + n = omega (arith, limits s .rises-pos) in
+    let output = ap megawatts at-k in
+    let earlier = ap megawatts (before-k ∙ ap (p case l) (sym (before-is k))) in
+    let marked = marks-at case l k hour before-k at-k (marks .marks-of .ensures) in
+    let startup = up .sequence-at .ensures (y case l) (counts .starts) ∙ startup-is case l k in
+    let shutdown = shut .sequence-at2 .ensures (z case l) (counts .stops) ∙ shutdown-is case l k in
+    let falling = c .before .between .ensures (z case l) (counts .stops) ∙ stops-are case l k (case .falls) in
+    let meeting = c .between2 .ensures (z case l) (counts .stops)
+    ∙ ap (λ j. counted (z case l) j - counted (z case l) k) met ∙ stops-are case l k n in
+    record { are = numbers-of output earlier marked startup shutdown falling meeting }
 
 pub numbers-at-spec : {M : Type 1} → statement M
 numbers-at-spec =

@@ -5,16 +5,18 @@ use native.Mathlib.Omega.{arith}
 use native.Mathlib.Nat.{mul-le-mul}
 use Prim.Native.Nat.{_+_, _*_, _≤_}
 use lib.IntN.{natAbs}
+use Rattle.model.specs.Limits.{words}
+use Rattle.machine.specs.Bounds.{mostMargin}
 use Rattle.laws.proofs.Magnitude.{abs--, abs-*}
 use Rattle.profit.proofs.EarnedLaws.{hour-of}
 use Rattle.profit.proofs.hour_profit.Statement.{statement}
 use Rattle.profit.proofs.hour_profit.Tie as tie
 
-most : (s : tie.Start) → natAbs (s .args .over .0) * (s .args .p .0 + s .args .q .0) ≤ 1000000 * 131070
-most s = mul-le-mul {n₂ = 1000000} {m₂ = 131070} (s .pre .1) (omega arith)
+most : (s : tie.Start) → natAbs (s .args .over .0) * (s .args .p .0 + s .args .q .0) ≤ mostMargin * (2 * words)
+most s = mul-le-mul {n₂ = mostMargin} {m₂ = 2 * words} (s .pre .1) (omega arith)
 
 -- what the energy of an hour is worth
-worth : (c : tie.After-multiple) → natAbs (c .multiple .result .0) ≤ 1000000 * 131070
+worth : (c : tie.After-multiple) → natAbs (c .multiple .result .0) ≤ mostMargin * (2 * words)
 worth c =
     let s = c .before .before .before in
     omega (arith, ap natAbs (c .multiple .ensures), abs-* (s .args .over .0) (s .args .p .0 + s .args .q .0), most s)

@@ -2,7 +2,7 @@
 use borrow.Author.Needs.{needs}
 use native.Mathlib.Omega.{arith}
 use mathlib.Core.Path.{sym, ap, _∙_}
-use Prim.Native.Nat.{ℕ, _+_, _-_, _^_}
+use Prim.Native.Nat.{ℕ, _+_, _-_}
 use lib.IntN.{pos, _-ℤ_}
 use lib.ListN.{getD}
 use mir.Syntax.{w16}
@@ -11,6 +11,8 @@ use Rattle.model.specs.Symbols.{F, price}
 use Rattle.model.specs.Marks.{p}
 use Rattle.model.specs.Profit.{profitAt}
 use Rattle.model.proofs.MarksLaws.{p-zero}
+use Rattle.model.proofs.LimitsLaws.{Limits, limits-of-refusalOf}
+use Rattle.machine.specs.Bounds.{mostMargin, mostHourProfit}
 use Rattle.profit.specs.Worth.{Worth, Hourly}
 use Rattle.profit.proofs.EarnedLaws.{over-of, Earned, earned-start, earned-step, earned-end}
 use Rattle.profit.proofs.profit_of.Statement.{statement}
@@ -28,17 +30,20 @@ start c = c .before .before .before .before .before
 abbrev in-hour : tie.After-output-at Inv-loop μ-loop → tie.In-loop Inv-loop μ-loop
 in-hour c = c .before .before
 
+limits : (s : tie.Start Inv-loop μ-loop) → Limits (s .args .case)
+limits s = limits-of-refusalOf (s .args .case) (s .pre)
+
 priced : (s : tie.Start Inv-loop μ-loop) (k : ℕ) → Fits w16 (getD (s .args .case .prices) k 0)
 priced s k = search needs
 
 -- what the price of the hour leaves above F
 over : (c : tie.After-margin Inv-loop μ-loop)
     → let case = start (c .before) .args .case in
-    Worth (pos (price case (c .before .before .loop .k + 1)) -ℤ pos (F case)) 1000000 (c .margin .result .0)
+    Worth (pos (price case (c .before .before .loop .k + 1)) -ℤ pos (F case)) mostMargin (c .margin .result .0)
 over c =
     let s = start (c .before) in
     let k = c .before .before .loop .k in
-    over-of (s .args .case) k (priced s k .fits) (search needs) (c .margin .ensures)
+    over-of (s .args .case) k (priced s k .fits) (limits s .variable-le) (c .margin .ensures)
 
 -- the hour is the next one
 hour : (c : tie.After-output-at Inv-loop μ-loop)
@@ -59,7 +64,7 @@ hour c =
 
 worth : (c : tie.After-hour-profit Inv-loop μ-loop)
     → let d = in-hour (c .before) in
-    Worth (profitAt (start d .args .case) (start d .args .list .now) (d .before .loop .k + 1)) (2 ^ 38)
+    Worth (profitAt (start d .args .case) (start d .args .list .now) (d .before .loop .k + 1)) mostHourProfit
     (c .hour-profit .result .0)
 worth c =
     let d = in-hour (c .before) in
@@ -69,19 +74,19 @@ loop-holds : tie.Need-loop-holds Inv-loop μ-loop
 loop-holds c = let a = c .before .before .before .args in earned-start (sym (p-zero (a .case) (a .list .now)))
 
 mul-margin : tie.Need-mul-margin Inv-loop μ-loop
-mul-margin c = search needs
+mul-margin c = omega (arith, limits (start c) .hours-le)
 
 array-read-margin : tie.Need-array-read-margin Inv-loop μ-loop
-array-read-margin c = search needs
+array-read-margin c = omega (arith, limits (start c) .hours-le)
 
 margin-requires : tie.Need-margin-requires Inv-loop μ-loop
 margin-requires c κs = search needs
 
 add-k : tie.Need-add-k Inv-loop μ-loop
-add-k c = search needs
+add-k c = omega (arith, limits (start (c .before)) .hours-le)
 
 cast-t15 : tie.Need-cast-t15 Inv-loop μ-loop
-cast-t15 c = search needs
+cast-t15 c = omega (arith, limits (start (c .before)) .hours-le)
 
 output-at-requires : tie.Need-output-at-requires Inv-loop μ-loop
 output-at-requires c κs = search needs
@@ -92,7 +97,7 @@ hour-profit-requires c κs = (start (in-hour c) .pre, over (c .before) .most)
 sum-requires : tie.Need-sum-requires Inv-loop μ-loop
 sum-requires c κs =
     let d = in-hour (c .before) in
-    omega (arith, d .before .loop .inv, start d .pre .hours, worth c .most)
+    omega (arith, d .before .loop .inv, limits (start d) .hours-le, worth c .most)
 
 loop-less : tie.Need-loop-less Inv-loop μ-loop
 loop-less c = search needs
@@ -110,7 +115,8 @@ loop-again c =
 returns : tie.Need-returns Inv-loop μ-loop
 returns c =
     let h = c .before .loop .inv in
-    record { is = earned-end h (search needs); most = omega (arith, h .most, h .part) }
+    let limits = limits (c .before .before .before .before .before) in
+    record { is = earned-end h (search needs); most = omega (arith, h .most, h .part, limits .hours-le) }
 
 pub profit-of-spec : {M : Type 1} → statement M
 profit-of-spec =

@@ -1,20 +1,18 @@
 -- `rules::judge` meets its contract: the breach that was found, or the profit. Assumes nothing.
+use borrow.Author.Needs.{needs}
 use mathlib.Core.Path.{_∙_, ap, sym}
 use Rattle.model.specs.declared.Verdict.the-variants.{Passes}
 use Rattle.model.specs.Answers.{judged}
 use Rattle.model.proofs.CheckLaws.{judged-none, judged-some}
-use Rattle.rules.proofs.LimitedLaws.{sized-of, priced-of}
 use Rattle.rules.proofs.BreachLaws.{found-none, found-some}
 use Rattle.rules.proofs.judge.Statement.{statement}
 use Rattle.rules.proofs.judge.Tie as tie
 
 first-breach-requires : tie.Need-first-breach-requires
-first-breach-requires c κs =
-    let start = c .before in
-    (sized-of (start .args .case) (start .pre .0), start .pre .1)
+first-breach-requires c κs = search needs
 
 profit-of-requires : tie.Need-profit-of-requires
-profit-of-requires c κs = let start = c .before .before .before .before in priced-of (start .args .case) (start .pre .0)
+profit-of-requires c κs = c .before .before .before .before .pre .0
 
 returns : tie.Need-returns
 returns c =

@@ -3,20 +3,29 @@ use borrow.Author.Needs.{needs}
 use Rattle.broken.proofs.limits.within_ramp.Statement.{statement}
 use Rattle.broken.proofs.limits.within_ramp.Tie as tie
 
-scaled-requires : tie.Need-scaled-requires
-scaled-requires c κs = search needs
+times-requires : tie.Need-times-requires
+times-requires c κs = search needs
 
-scaled-requires-2 : tie.Need-scaled-requires-2
-scaled-requires-2 c κs = search needs
+times-requires-2 : tie.Need-times-requires-2
+times-requires-2 c κs = search needs
 
-plus-requires : tie.Need-plus-requires
-plus-requires c κs = search needs
+add-most : tie.Need-add-most
+add-most c = search needs
 
-scaled-requires-3 : tie.Need-scaled-requires-3
-scaled-requires-3 c κs = search needs
+wide-requires : tie.Need-wide-requires
+wide-requires c κs = search needs
 
-at-most-requires : tie.Need-at-most-requires
-at-most-requires c κs = search needs
+times-requires-3 : tie.Need-times-requires-3
+times-requires-3 c κs = search needs
+
+add-result : tie.Need-add-result
+add-result c = search needs
+
+wide-requires-2 : tie.Need-wide-requires-2
+wide-requires-2 c κs = search needs
+
+add-result-2 : tie.Need-add-result-2
+add-result-2 c = search needs
 
 returns : tie.Need-returns
 returns c = cc
@@ -25,9 +34,12 @@ pub within-ramp-spec : {M : Type 1} → statement M
 within-ramp-spec =
     tie.close
     (tie.spec
-    scaled-requires
-    scaled-requires-2
-    plus-requires
-    scaled-requires-3
-    at-most-requires
+    times-requires
+    times-requires-2
+    add-most
+    wide-requires
+    times-requires-3
+    add-result
+    wide-requires-2
+    add-result-2
     returns)

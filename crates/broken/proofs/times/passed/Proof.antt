@@ -1,7 +1,6 @@
 -- `broken::times::passed` meets its contract: each of the two is later by an hour. Assumes nothing.
 use borrow.Author.Needs.{needs}
-use native.Mathlib.Omega.{arith}
-use Rattle.model.specs.Symbols.{h}
+use mathlib.Core.Path.{ap}
 use Rattle.model.specs.Marks.{y, z}
 use Rattle.broken.proofs.times.passed.Statement.{statement}
 use Rattle.broken.proofs.times.passed.Tie as tie
@@ -14,15 +13,9 @@ later-requires-2 c κs = search needs
 
 returns : tie.Need-returns
 returns c =
-    let start = c .before .later .ensures in
-    let stop = c .later2 .ensures in
-    record {
-      next = λ case l k more n e. record {
-        start = start .next (h case) (y case l) k more (n .marks .start) (e .start);
-        stop = stop .next (h case) (z case l) k more (n .marks .stop) (e .stop);
-        startmost = omega (arith, start .most, e .startmost);
-        stopmost = omega (arith, stop .most, e .stopmost);
-      };
+    λ case l k some n e. record {
+      start = c .before .later .ensures case (y case l) k some (ap (λ m. m .marks .start) (n .are)) (e .start);
+      stop = c .later2 .ensures case (z case l) k some (ap (λ m. m .marks .stop) (n .are)) (e .stop);
     }
 
 pub passed-spec : {M : Type 1} → statement M

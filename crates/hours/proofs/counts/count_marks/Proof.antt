@@ -2,10 +2,12 @@
 use borrow.Author.Needs.{needs}
 use mathlib.Core.Path.{_≡_, refl}
 use native.Mathlib.Omega.{arith}
-use Prim.Native.Nat.{_-_, _≤_}
+use Prim.Native.Nat.{_-_}
 use lib.ListN.{length}
 use Rattle.model.specs.declared.Case.{Case}
-use Rattle.hours.proofs.MarkingLaws.{Marking, marking-start, marking-few, marking-step, marking-end}
+use Rattle.hours.specs.Counted.{lastCount}
+use Rattle.hours.proofs.CountLaws.{counting-few}
+use Rattle.hours.proofs.MarkingLaws.{Marking, marking-start, marking-step, marking-end}
 use Rattle.hours.proofs.counts.count_marks.Statement.{statement}
 use Rattle.hours.proofs.counts.count_marks.Tie as tie
 
@@ -14,21 +16,18 @@ Inv-loop list starts₀ stops₀ was₀ up₀ down₀ k₀ starts stops was up d
     (c : Case) → length list ≡ c .hours → c .initial .0 ≡ was₀ .0 → Marking c list k (was .0) up down starts stops
 
 abbrev μ-loop : tie.MeasureT-loop
-μ-loop list starts₀ stops₀ was₀ up₀ down₀ k₀ starts stops was up down k = 63 - k
+μ-loop list starts₀ stops₀ was₀ up₀ down₀ k₀ starts stops was up down k = lastCount - k
 
 -- of the case that is given
 marking : (c : tie.At-loop Inv-loop μ-loop)
     → let a = c .before .before .before .args in
     let now = c .loop in
     Marking (a .case) (a .list .now) (now .k) (now .was .0) (now .up) (now .down) (now .starts) (now .stops)
-marking c = let s = c .before .before .before in c .loop .inv (s .args .case) (s .pre .1 .0) refl
-
-few : (c : tie.At-loop Inv-loop μ-loop) → (c .loop .up ≤ c .loop .k) × (c .loop .down ≤ c .loop .k)
-few c = marking-few (c .before .before .before .pre .1 .0) (marking c)
+marking c = let s = c .before .before .before in c .loop .inv (s .args .case) (s .pre .0) refl
 
 loop-holds : tie.Need-loop-holds Inv-loop μ-loop
 loop-holds c =
-    let (starts, stops) = c .before .before .pre .1 .1 in
+    let (starts, stops) = c .before .before .pre .1 in
     λ case long e. marking-start long starts stops e
 
 sub-next-output : tie.Need-sub-next-output Inv-loop μ-loop
@@ -43,12 +42,12 @@ marks-of-requires c κs = search needs
 add-up : tie.Need-add-up Inv-loop μ-loop
 add-up c =
     let m = c .before in
-    omega (arith, m .marks-of .ensures, few (m .before .before .before) .0)
+    omega (arith, m .marks-of .ensures, counting-few (marking (m .before .before .before) .starts))
 
 add-down : tie.Need-add-down Inv-loop μ-loop
 add-down c =
     let m = c .before .before in
-    omega (arith, m .marks-of .ensures, few (m .before .before .before) .1)
+    omega (arith, m .marks-of .ensures, counting-few (marking (m .before .before .before) .stops))
 
 add-k : tie.Need-add-k Inv-loop μ-loop
 add-k c = search needs
@@ -72,7 +71,7 @@ loop-again c =
     (marks .ensures)
 
 returns : tie.Need-returns Inv-loop μ-loop
-returns c = marking-end (c .before .before .before .before .pre .1 .0) (marking (c .before)) (search needs)
+returns c = marking-end (c .before .before .before .before .pre .0) (marking (c .before)) (search needs)
 
 pub count-marks-spec : {M : Type 1} → statement M
 count-marks-spec =

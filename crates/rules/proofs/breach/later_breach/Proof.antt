@@ -1,9 +1,11 @@
 -- `rules::breach::later_breach` meets its contract: hours that break no rule are passed one by one. Assumes nothing.
 use borrow.Author.Needs.{needs}
+use native.Mathlib.Omega.{arith}
 use mathlib.Core.Path.{_≡_, _∙_, sym}
 use Prim.Native.Nat.{_+_, _-_}
 use Rattle.model.specs.Rules.{brokenAt}
 use Rattle.model.proofs.CheckLaws.{hourly-at}
+use Rattle.model.proofs.LimitsLaws.{Limits, limits-of-refusalOf}
 use Rattle.rules.proofs.BreachLaws.{Kept, kept-start, kept-step, kept-broken, kept-end}
 use Rattle.rules.proofs.breach.later_breach.Statement.{statement}
 use Rattle.rules.proofs.breach.later_breach.Tie as tie
@@ -17,6 +19,9 @@ abbrev μ-loop : tie.MeasureT-loop
 abbrev start : tie.In-loop Inv-loop μ-loop → tie.Start Inv-loop μ-loop
 start c = c .before .before .before .before .before
 
+limits : (s : tie.Start Inv-loop μ-loop) → Limits (s .args .case)
+limits s = limits-of-refusalOf (s .args .case) (s .pre .0)
+
 -- the rule of the hour
 broken : (c : tie.After-broken-at Inv-loop μ-loop)
     → let a = start (c .before .before) .args in
@@ -29,13 +34,13 @@ broken c =
     (sym (hourly-at (a .case .orders) (loop .k) some))
 
 opening-requires : tie.Need-opening-requires Inv-loop μ-loop
-opening-requires c κs = c .before .before .pre .0
+opening-requires c κs = search needs
 
 loop-holds : tie.Need-loop-holds Inv-loop μ-loop
 loop-holds c = kept-start (c .opening .ensures (c .before .before .before .args .list .now))
 
 cast-t13 : tie.Need-cast-t13 Inv-loop μ-loop
-cast-t13 c = search needs
+cast-t13 c = omega (arith, limits (start c) .hours-le)
 
 numbers-at-requires : tie.Need-numbers-at-requires Inv-loop μ-loop
 numbers-at-requires c κs =
@@ -46,10 +51,10 @@ sub-broken-at : tie.Need-sub-broken-at Inv-loop μ-loop
 sub-broken-at c = search needs
 
 array-read-broken-at : tie.Need-array-read-broken-at Inv-loop μ-loop
-array-read-broken-at c = search needs
+array-read-broken-at c = omega (arith, limits (start (c .before)) .hours-le)
 
 broken-at-requires : tie.Need-broken-at-requires Inv-loop μ-loop
-broken-at-requires c κs = (start (c .before) .pre .0, c .numbers-at .ensures .small)
+broken-at-requires c κs = start (c .before) .pre .0
 
 returns : tie.Need-returns Inv-loop μ-loop
 returns c =
@@ -57,10 +62,14 @@ returns c =
     kept-broken (d .before .before .before .loop .inv) (d .broken-at .result) (search needs) (broken d) (c .if1 .taken)
 
 passed-requires : tie.Need-passed-requires Inv-loop μ-loop
-passed-requires c κs = search needs
+passed-requires c κs =
+    let d = c .before .before .before in
+    let h = limits (start d) in
+    let e = d .before .loop .inv .elapsed in
+    omega (arith, e .start .most, e .stop .most, h .hours-le, h .elapsed-le)
 
 add-k : tie.Need-add-k Inv-loop μ-loop
-add-k c = search needs
+add-k c = omega (arith, limits (start (c .before .before .before .before)) .hours-le)
 
 loop-less : tie.Need-loop-less Inv-loop μ-loop
 loop-less c = search needs
@@ -70,7 +79,7 @@ loop-again c =
     let d = c .before .before in
     let loop = d .before .before .before .loop in
     let a = start (d .before .before) .args in
-    let next = c .passed .ensures .next (a .case) (a .list .now) (loop .k) (loop .inv .some) in
+    let next = c .passed .ensures (a .case) (a .list .now) (loop .k) (loop .inv .some) in
     kept-step (loop .inv) (c .passed .result) (search needs) (sym (broken d) ∙ c .before .if1 .left)
     (next (d .before .numbers-at .ensures) (loop .inv .elapsed))
 
