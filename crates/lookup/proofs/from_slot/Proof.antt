@@ -1,10 +1,10 @@
--- `search::choice::from_slot` meets its contract: the parts of the slot are the row and the side. Assumes nothing.
+-- `lookup::from_slot` meets its contract: the parts of the slot are the row and the side. Assumes nothing.
 use borrow.Author.Needs.{needs}
 use native.Mathlib.Omega.{arith}
 use mathlib.Core.Path.{refl}
-use Rattle.search.proofs.Locks.{ahead-slot}
-use Rattle.search.proofs.choice.from_slot.Statement.{statement}
-use Rattle.search.proofs.choice.from_slot.Tie as tie
+use Rattle.lookup.proofs.Locks.{ahead-slot}
+use Rattle.lookup.proofs.from_slot.Statement.{statement}
+use Rattle.lookup.proofs.from_slot.Tie as tie
 
 cells-of-requires : tie.Need-cells-of-requires
 cells-of-requires c κs = search needs

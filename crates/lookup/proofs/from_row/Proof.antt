@@ -1,9 +1,9 @@
--- `search::choice::from_row` meets its contract: inside a lock no side is looked at. Assumes nothing.
+-- `lookup::from_row` meets its contract: inside a lock no side is looked at. Assumes nothing.
 use borrow.Author.Needs.{needs}
 use native.Mathlib.Omega.{arith}
-use Rattle.search.proofs.Locks.{ahead-row}
-use Rattle.search.proofs.choice.from_row.Statement.{statement}
-use Rattle.search.proofs.choice.from_row.Tie as tie
+use Rattle.lookup.proofs.Locks.{ahead-row}
+use Rattle.lookup.proofs.from_row.Statement.{statement}
+use Rattle.lookup.proofs.from_row.Tie as tie
 
 cells-of-requires : tie.Need-cells-of-requires
 cells-of-requires c κs = search needs

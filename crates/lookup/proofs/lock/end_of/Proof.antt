@@ -1,9 +1,9 @@
--- `search::lock::end_of` meets its contract. Assumes nothing.
+-- `lookup::lock::end_of` meets its contract. Assumes nothing.
 use borrow.Author.Needs.{needs}
 use native.Mathlib.Omega.{arith}
-use Rattle.search.proofs.Walked.{lock-small}
-use Rattle.search.proofs.lock.end_of.Statement.{statement}
-use Rattle.search.proofs.lock.end_of.Tie as tie
+use Rattle.lookup.proofs.Locks.{lock-small}
+use Rattle.lookup.proofs.lock.end_of.Statement.{statement}
+use Rattle.lookup.proofs.lock.end_of.Tie as tie
 
 lock-of-requires : tie.Need-lock-of-requires
 lock-of-requires c κs = search needs

@@ -1,4 +1,4 @@
--- `search::choice::choose` meets its contract, by where it looks. Assumes nothing.
+-- `lookup::choose` meets its contract, by where it looks. Assumes nothing.
 use borrow.Author.Needs.{needs}
 use native.Mathlib.Omega.{arith}
 use native.Mathlib.Numerals.{add-one}
@@ -17,10 +17,9 @@ use Rattle.cells.specs.Table.{entry, lockOf}
 use Rattle.layers.specs.Saved.{RowAt, SavedAt}
 use Rattle.layers.proofs.Slots.{slot-room}
 use Rattle.rows.proofs.Ends.{sized-at}
-use Rattle.search.proofs.Walked.{lock-small}
-use Rattle.search.proofs.Locks.{slot-at}
-use Rattle.search.proofs.choice.choose.Statement.{statement}
-use Rattle.search.proofs.choice.choose.Tie as tie
+use Rattle.lookup.proofs.Locks.{lock-small, slot-at}
+use Rattle.lookup.proofs.choose.Statement.{statement}
+use Rattle.lookup.proofs.choose.Tie as tie
 
 -- the call, seen from after the end of the lock is known
 abbrev start : tie.After-end-of → tie.Start

@@ -1,11 +1,10 @@
--- `search::lock::keep` meets its contract, by the outcomes of its tests. Assumes nothing.
+-- `lookup::lock::keep` meets its contract, by the outcomes of its tests. Assumes nothing.
 use borrow.Author.Needs.{needs}
 use native.Mathlib.Omega.{arith}
 use Prim.Native.Nat.{suc}
-use Rattle.search.proofs.Walked.{lock-small}
-use Rattle.search.proofs.Locks.{locked-from}
-use Rattle.search.proofs.lock.keep.Statement.{statement}
-use Rattle.search.proofs.lock.keep.Tie as tie
+use Rattle.lookup.proofs.Locks.{lock-small, locked-from}
+use Rattle.lookup.proofs.lock.keep.Statement.{statement}
+use Rattle.lookup.proofs.lock.keep.Tie as tie
 
 end-of-requires : tie.Need-end-of-requires
 end-of-requires c κs = search needs

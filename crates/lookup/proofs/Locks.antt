@@ -12,17 +12,27 @@ use lib.ListN.{length, getD, take, drop, length-take, length-drop}
 use lib.Seq.{getD-take, getD-drop}
 use lib.IntN.{ℤ, pos}
 use Rattle.laws.specs.Placed.{Part}
-use Rattle.model.specs.Limits.{mostOutput}
+use Rattle.model.specs.Limits.{mostOutput, mostTime}
 use Rattle.machine.specs.declared.Unit.{Unit}
 use Rattle.machine.specs.declared.Terms.{Terms}
+use Rattle.machine.specs.declared.State.{State}
+use Rattle.machine.specs.declared.State.the-variants.{Off, Rise, Run, Fall}
+use Rattle.machine.specs.Proper.{Proper}
 use Rattle.machine.specs.Moves.{worth, Worths}
 use Rattle.machine.specs.Fit.{Fit, Fair}
-use Rattle.cells.specs.Table.{Sized, Row, SideCell, Layer, Ahead, cellsOf}
+use Rattle.cells.specs.Table.{Sized, Row, SideCell, Layer, Ahead, lockOf, cellsOf}
 use Rattle.machine.specs.Lengths.{sideLength}
 use Rattle.rows.proofs.Ends.{row-to, row-over, row-at, sized-at}
 use Rattle.layers.specs.Saved.{RowAt, SavedAt, Saved, Locked, lockEnd}
 use Rattle.machine.specs.Lengths.{keptLength}
 use Rattle.layers.proofs.Slots.{cells-side}
+
+-- the hours to go of a state are those of a minimum time
+pub lock-small : (u : Unit) (s : State) → Proper u s → lockOf s ≤ mostTime
+lock-small u (Off d) p = omega arith
+lock-small u (Rise i) p = omega arith
+lock-small u (Run r j) p = p .2
+lock-small u (Fall i) p = omega arith
 
 module _ (u : Unit) (day : ℕ → Terms) where
   -- where a lock ends there are no hours to go, or any where the day ends

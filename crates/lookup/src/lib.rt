@@ -1,6 +1,9 @@
-// The choice of an hour, from what the states after it are worth: from the layer's slot, from a kept row of the lock,
-// or from the layer made again. The definitions are those of machine's specs/Moves, cells' specs/Table and layers'
-// specs/Saved.
+// The choice of an hour, from what the states after it are worth: looked up in the layer's slot or in a kept row of the
+// lock, or made again from the next layer that is kept. The definitions are those of machine's specs/Moves, cells'
+// specs/Table and layers' specs/Saved. Each function is called by crates of this repository, which keep what it asks
+// for.
+pub mod lock;
+
 use cells::Pick;
 use machine::Charges;
 use machine::ENTRIES;
@@ -145,7 +148,7 @@ pub fn choose(
     let after = k.next();
     let e = money::value_at(entries, after.0 as usize);
     let t = cells::terms_at(margins, orders, charges, k);
-    let b = crate::lock::end_of(u, k, s);
+    let b = lock::end_of(u, k, s);
     if after.0 < b.0 {
         let at = (b.0 - after.0 - 1) as usize;
         return from_row(u, t, s, at * ROW, kept, e);

@@ -1,4 +1,4 @@
--- `search::choice::from_again` meets its contract, by what its parts ensure. Assumes nothing.
+-- `lookup::from_again` meets its contract, by what its parts ensure. Assumes nothing.
 use borrow.Author.Needs.{needs}
 use native.Mathlib.Omega.{arith}
 use native.Mathlib.Numerals.{add-one}
@@ -7,9 +7,9 @@ use Prim.Native.Nat.{suc, _≤_}
 use Rattle.machine.specs.Moves.{dayOf, worth}
 use Rattle.cells.specs.Table.{cellsOf, lockOf}
 use Rattle.layers.proofs.EntryLaws.{layer-at}
-use Rattle.search.proofs.Locks.{ahead-again}
-use Rattle.search.proofs.choice.from_again.Statement.{statement}
-use Rattle.search.proofs.choice.from_again.Tie as tie
+use Rattle.lookup.proofs.Locks.{ahead-again}
+use Rattle.lookup.proofs.from_again.Statement.{statement}
+use Rattle.lookup.proofs.from_again.Tie as tie
 
 next-requires : tie.Need-next-requires
 next-requires c κs = search needs

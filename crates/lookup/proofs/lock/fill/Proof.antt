@@ -1,4 +1,4 @@
--- `search::lock::fill` meets its contract. The invariant: the row is that of hour h, with as many hours to go as the
+-- `lookup::lock::fill` meets its contract. The invariant: the row is that of hour h, with as many hours to go as the
 -- end of the lock allows, and the rows from hour h on are kept. Assumes nothing.
 use borrow.Author.Needs.{needs}
 use native.Mathlib.Omega.{arith}
@@ -8,9 +8,9 @@ use Rattle.machine.specs.Moves.{dayOf, worth}
 use Rattle.cells.specs.Table.{Row, cellsOf}
 use Rattle.layers.specs.Saved.{Locked, lockEnd}
 use Rattle.rows.proofs.Ends.{row-at}
-use Rattle.search.proofs.Locks.{lock-start, locked-start, locked-step, locked-from}
-use Rattle.search.proofs.lock.fill.Statement.{statement}
-use Rattle.search.proofs.lock.fill.Tie as tie
+use Rattle.lookup.proofs.Locks.{lock-start, locked-start, locked-step, locked-from}
+use Rattle.lookup.proofs.lock.fill.Statement.{statement}
+use Rattle.lookup.proofs.lock.fill.Tie as tie
 
 abbrev Inv-loop : tie.InvT-loop
 Inv-loop u charges margins orders k b n entries work kept₀ row₀ wide h₀ kept row h =
