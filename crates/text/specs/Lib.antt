@@ -1,2 +1,3 @@
 -- What the contracts of the crate's own functions cite.
+pub mod Lines
 pub mod Puts

@@ -10,6 +10,7 @@ ghost use lib.ListN.{length};
 ghost use Rattle.model.specs.Limits.{mostHours, workLength};
 ghost use Rattle.model.specs.Answers.{readOf};
 ghost use Rattle.model.specs.Printed.{readText, printedOf, printingOf};
+ghost use Rattle.text.specs.Lines.{longest};
 ghost use Rattle.text.specs.Puts.{Puts};
 use model::HOURS;
 use model::INPUT;
@@ -17,15 +18,19 @@ use model::Plan;
 use model::WORK;
 use model::Written;
 
-// Bytes that no text exceeds: a profit line of 28, and 48 hour lines of 16.
-pub const LONGEST: usize = 796;
+// Bytes at the most (specs/Lines): of the profit's line, of an hour's, and of a text, which has a line for each hour.
+const PROFIT_LINE: usize = 28;
+
+const HOUR_LINE: usize = 16;
+
+pub const LONGEST: usize = PROFIT_LINE + HOUR_LINE * HOURS;
 
 // Puts the best day of a file, found in lent memory that is long enough, or its refusal.
 fn put_best(file: &[u8], work: &mut [i64], outputs: &mut [u16], out: &mut [u8; LONGEST]) -> usize
     requires { ⌜ (workLength ≤ length (now work)) × (mostHours ≤ length (now outputs)) ⌝ }
     ensures { λ r. ⌜ Puts (now (out .entry)) 0 (readText (readOf (now (file .entry)) .outcome)
         (readOf (now (file .entry)) .case)) (now (out .exit)) r ⌝ }
-    ensures { λ r. ⌜ r ≤ 796 ⌝ }
+    ensures { λ r. ⌜ r ≤ longest ⌝ }
 {
     let reading = codec::read(file);
     let case = reading.case;
@@ -38,7 +43,7 @@ fn put_best(file: &[u8], work: &mut [i64], outputs: &mut [u16], out: &mut [u8; L
 // Puts the text of an input.
 fn put_text(input: &[u8], out: &mut [u8; LONGEST]) -> usize
     ensures { λ r. ⌜ Puts (now (out .entry)) 0 (printedOf (now (input .entry))) (now (out .exit)) r ⌝ }
-    ensures { λ r. ⌜ r ≤ 796 ⌝ }
+    ensures { λ r. ⌜ r ≤ longest ⌝ }
 {
     if INPUT < input.len() {
         return lines::put_refused(out, 1);
@@ -53,7 +58,7 @@ fn put_text(input: &[u8], out: &mut [u8; LONGEST]) -> usize
 pub fn print(input: &[u8], text: &mut [u8]) -> Written
     ensures { λ r. ⌜ r ≡ (printingOf (now (input .entry)) (now (text .entry))) .answer ⌝ }
     ensures { λ _. ⌜ now (text .exit) ≡ (printingOf (now (input .entry)) (now (text .entry))) .lent ⌝ }
-    ensures { λ _. ⌜ length (printedOf (now (input .entry))) ≤ 796 ⌝ }
+    ensures { λ _. ⌜ length (printedOf (now (input .entry))) ≤ longest ⌝ }
 {
     let mut whole = [0u8; LONGEST];
     let n = put_text(input, &mut whole);

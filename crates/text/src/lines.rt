@@ -3,12 +3,15 @@
 ghost use mathlib.Core.List.{_++_};
 ghost use Prim.Native.Nat.{_+_, _≤_};
 ghost use lib.ListN.{length};
+ghost use Rattle.model.specs.Limits.{mostHours};
 ghost use Rattle.model.specs.Printed.{sign, profitLine, refusedLine, hourLine, hourLines};
 ghost use Rattle.text.specs.Puts.{Puts};
 use crate::parts::put;
 use crate::parts::put_field;
 use model::Case;
 use model::HalfMills;
+use model::Hour;
+use model::Output;
 
 // Puts "refused" and a number.
 pub(crate) fn put_refused(out: &mut [u8], number: u8) -> usize
@@ -41,28 +44,29 @@ fn put_profit(out: &mut [u8], v: HalfMills) -> usize
 }
 
 // Puts an hour that goes from one output to another.
-fn put_hour(out: &mut [u8], at: usize, hour: usize, before: u16, output: u16) -> usize
-    requires { ⌜ at + length (hourLine hour output (output + before)) ≤ length (now out) ⌝ }
-    ensures { λ r. ⌜ Puts (now (out .entry)) at (hourLine hour output (output + before)) (now (out .exit)) r ⌝ }
+fn put_hour(out: &mut [u8], at: usize, hour: Hour, before: Output, output: Output) -> usize
+    requires { ⌜ at + length (hourLine (hour .0) (output .0) (output .0 + before .0)) ≤ length (now out) ⌝ }
+    ensures { λ r. ⌜ Puts (now (out .entry)) at (hourLine (hour .0) (output .0) (output .0 + before .0))
+        (now (out .exit)) r ⌝ }
 {
-    let first = put_field(out, at, hour as u64, b" ");
-    let second = put_field(out, first, output as u64, b" ");
-    put_field(out, second, output as u64 + before as u64, b"\n")
+    let first = put_field(out, at, hour.0 as u64, b" ");
+    let second = put_field(out, first, output.0 as u64, b" ");
+    put_field(out, second, output.0 as u64 + before.0 as u64, b"\n")
 }
 
 // Puts the hours of a case with a list that has them.
 fn put_hours(out: &mut [u8], at: usize, case: Case, outputs: &[u16]) -> usize
-    requires { ⌜ case .hours ≤ length (now outputs) ⌝ }
+    requires { ⌜ (case .hours ≤ length (now outputs)) × (case .hours ≤ mostHours) ⌝ }
     requires { ⌜ at + length (hourLines case (now outputs) (case .hours)) ≤ length (now out) ⌝ }
     ensures { λ r. ⌜ Puts (now (out .entry)) at (hourLines case (now (outputs .entry)) (case .hours))
         (now (out .exit)) r ⌝ }
 {
-    let mut before = case.initial.0;
+    let mut before = case.initial;
     let mut next = at;
     let mut i = 0;
     while i < case.hours {
-        let output = outputs[i];
-        next = put_hour(out, next, i + 1, before, output);
+        let output = Output(outputs[i]);
+        next = put_hour(out, next, Hour(i as u16 + 1), before, output);
         before = output;
         i += 1;
     }
@@ -71,7 +75,7 @@ fn put_hours(out: &mut [u8], at: usize, case: Case, outputs: &[u16]) -> usize
 
 // Puts the profit and the hours of a case with a list that has them.
 pub(crate) fn put_day(out: &mut [u8], profit: HalfMills, case: Case, outputs: &[u16]) -> usize
-    requires { ⌜ case .hours ≤ length (now outputs) ⌝ }
+    requires { ⌜ (case .hours ≤ length (now outputs)) × (case .hours ≤ mostHours) ⌝ }
     requires { ⌜ length (profitLine (profit .0) ++ hourLines case (now outputs) (case .hours)) ≤ length (now out) ⌝ }
     ensures { λ r. ⌜ Puts (now (out .entry)) 0
         (profitLine (profit .0) ++ hourLines case (now (outputs .entry)) (case .hours)) (now (out .exit)) r ⌝ }

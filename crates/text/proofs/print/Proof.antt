@@ -9,6 +9,7 @@ use borrow.Author.Needs.{needs}
 use Rattle.model.specs.declared.Written.the-variants.{Bytes}
 use Rattle.model.specs.Printed.{printedOf}
 use Rattle.model.proofs.PrintedLaws.{printingOf-short, printingOf-done}
+use Rattle.text.specs.Lines.{longest}
 use Rattle.text.proofs.PutsLaws.{puts-front}
 use Rattle.text.proofs.print.Statement.{statement}
 use Rattle.text.proofs.print.Tie as tie
@@ -21,10 +22,10 @@ module _ (c : tie.After-put-text) where
   size : c .put-text .result ≡ length text
   size = omega (arith, c .put-text .ensures .0 .place)
 
-  most : length text ≤ 796
+  most : length text ≤ longest
   most = omega (arith, size, c .put-text .ensures .1)
 
-  kept : length (c .put-text .last .1 .0) ≡ 796
+  kept : length (c .put-text .last .1 .0) ≡ longest
   kept = ap length (c .put-text .ensures .0 .bytes) ∙ simp length-sets
 
   front : take (c .put-text .result) (c .put-text .last .1 .0) ≡ text

@@ -2,7 +2,7 @@
 -- Assumes nothing.
 use mathlib.Core.Path.{_≡_}
 use mathlib.Core.List.{List, _++_}
-use Prim.Native.Nat.{ℕ, _+_, _≤_, _<_, _^_}
+use Prim.Native.Nat.{ℕ, _+_, _*_, _≤_, _<_, _^_}
 use native.Mathlib.Omega.{arith}
 use lib.IntN.{natAbs}
 use lib.ListN.{length, getD, length-append}
@@ -11,10 +11,12 @@ use mir.Val.{SFits}
 use borrow.Author.Needs.{needs}
 use Rattle.model.specs.declared.HalfMills.{HalfMills}
 use Rattle.model.specs.declared.Plan.the-variants.{Found, Refused}
+use Rattle.model.specs.Limits.{mostHours, words}
 use Rattle.model.specs.Answers.{readOf}
 use Rattle.model.specs.Printed.{profitLine, refusedLine, hourLines, readText}
 use Rattle.model.proofs.LimitsLaws.{Limits}
 use Rattle.model.proofs.PrintedLaws.{length-refusedLine, length-profitLine, length-hourLines}
+use Rattle.text.specs.Lines.{hourLength, longest}
 use Rattle.text.proofs.PlanLaws.{abs-of-fits, told-refused, told-found, limits-found}
 use Rattle.text.proofs.put_best.Statement.{statement}
 use Rattle.text.proofs.put_best.Tie as tie
@@ -70,13 +72,13 @@ module _ (c : tie.After-known-told) where
       let case = read call .read .result .case in
       hourLines case (call .schedule .last .1 .1 .0) (case .hours)
 
-  outputs-lt : (i : ℕ) → getD (call .schedule .last .1 .1 .0) i 0 < 65536
+  outputs-lt : (i : ℕ) → getD (call .schedule .last .1 .1 .0) i 0 < words
   outputs-lt i = c .before .before .before .slice-known2 .given i .fits
 
-  hours-length : length hours ≤ 768
+  hours-length : length hours ≤ hourLength * mostHours
   hours-length =
       let case = read call .read .result .case in
-      let opening : case .initial .0 < 65536 = omega (arith, limits .initial-le, limits .capacity-le) in
+      let opening : case .initial .0 < words = omega (arith, limits .initial-le, limits .capacity-le) in
       let few : case .hours < 100 = omega (arith, limits .hours-le) in
       omega (
         arith,
@@ -84,7 +86,7 @@ module _ (c : tie.After-known-told) where
         length-hourLines case (call .schedule .last .1 .1 .0) opening outputs-lt (case .hours) few,
       )
 
-  day-length : length (profitLine (c .before .profit .given .0 .0 .0) ++ hours) ≤ 796
+  day-length : length (profitLine (c .before .profit .given .0 .0 .0) ++ hours) ≤ longest
   day-length =
       let v = c .before .profit .given .0 .0 .0 in
       omega (arith, length-append (profitLine v) hours, length-profitLine v bounded, hours-length)
@@ -95,7 +97,7 @@ put-day-requires c κs =
     let kept = told .before .before .before .before .outputs .given in
     let h : read (call told) .read .result .case .hours ≤ length (call told .schedule .last .1 .1 .0)
     = omega (arith, limits told .hours-le, s (call told) .pre .1, kept) in
-    (h, omega (arith, day-length told))
+    ((h, limits told .hours-le), omega (arith, day-length told))
 
 enum-known-number : tie.Need-enum-known-number
 enum-known-number c = search needs

@@ -18,7 +18,7 @@ abbrev Inv-loop : tie.InvT-loop
 Inv-loop out₀ at case outputs before₀ next₀ i₀ out before next i =
     (i ≤ case .hours)
     × (length out ≡ length out₀)
-    × (before ≡ p case outputs i)
+    × (before .0 ≡ p case outputs i)
     × Puts out₀ at (hourLines case outputs i) out next
 
 abbrev μ-loop : tie.MeasureT-loop
@@ -26,7 +26,7 @@ abbrev μ-loop : tie.MeasureT-loop
 
 loop-holds : tie.Need-loop-holds Inv-loop μ-loop
 loop-holds c =
-    let args = c .before .before .args in
+    let args = c .before .before .before .args in
     let outputs = args .outputs .now in (
       omega arith,
       refl,
@@ -34,25 +34,28 @@ loop-holds c =
       rw (hourLines-none (args .case) outputs) (puts-none (args .out .now) (args .at)),
     )
 
-mul-output : tie.Need-mul-output Inv-loop μ-loop
-mul-output c = omega arith
+mul-t10 : tie.Need-mul-t10 Inv-loop μ-loop
+mul-t10 c = omega arith
 
-shared-slice-read-output : tie.Need-shared-slice-read-output Inv-loop μ-loop
-shared-slice-read-output c = omega arith
+shared-slice-read-t12 : tie.Need-shared-slice-read-t12 Inv-loop μ-loop
+shared-slice-read-t12 c = omega arith
 
-add-put-hour : tie.Need-add-put-hour Inv-loop μ-loop
-add-put-hour c = omega arith
+cast-t12 : tie.Need-cast-t12 Inv-loop μ-loop
+cast-t12 c = omega arith
+
+add-t15 : tie.Need-add-t15 Inv-loop μ-loop
+add-t15 c = omega arith
 
 put-hour-requires : tie.Need-put-hour-requires Inv-loop μ-loop
 put-hour-requires c κs =
     let here = c .before .before .before .before in
     let l = here .loop in
-    let s = here .before .before .before in
+    let s = here .before .before .before .before in
     let case = s .args .case in
     let outputs = s .args .outputs .now in
     let output = getD outputs (l .i) 0 in
     let longer = length-hourLines-le case outputs (l .i + 1) (case .hours) (omega arith) in
-    room-then (hourLines case outputs (l .i)) (hourLine (l .i + 1) output (output + l .before)) (l .inv .3)
+    room-then (hourLines case outputs (l .i)) (hourLine (l .i + 1) output (output + l .before .0)) (l .inv .3)
     (omega (arith, s .pre .1, longer, ap length (hourLines-more case outputs (l .i) (l .inv .2))))
 
 add-i : tie.Need-add-i Inv-loop μ-loop
@@ -66,7 +69,7 @@ loop-again c =
     let call = c .before .before in
     let here = call .before .before .before .before .before in
     let l = here .loop in
-    let args = here .before .before .before .args in
+    let args = here .before .before .before .before .args in
     let case = args .case in
     let outputs = args .outputs .now in
     let output = getD outputs (l .i) 0 in (
@@ -74,7 +77,7 @@ loop-again c =
       call .put-hour .kept .0 ∙ l .inv .1,
       sym (ap (p case outputs) (add-one (l .i)) ∙ p-suc case outputs (l .i)),
       rw (hourLines-more case outputs (l .i) (l .inv .2))
-          (puts-then (hourLines case outputs (l .i)) (hourLine (l .i + 1) output (output + l .before)) (l .inv .3)
+          (puts-then (hourLines case outputs (l .i)) (hourLine (l .i + 1) output (output + l .before .0)) (l .inv .3)
           (call .put-hour .ensures)),
     )
 
@@ -84,24 +87,12 @@ same-length c = c .before .before .loop .inv .1
 returns : tie.Need-returns Inv-loop μ-loop
 returns c =
     let l = c .before .before .loop in
-    let args = c .before .before .before .before .before .args in
+    let args = c .before .before .before .before .before .before .args in
     let all : l .i ≡ args .case .hours = omega arith in
     subst (λ k. Puts (args .out .now) (args .at) (hourLines (args .case) (args .outputs .now) k) (l .out) (l .next)) all
     (l .inv .3)
 
 pub put-hours-spec : {M : Type 1} → statement M
 put-hours-spec =
-    tie.close
-    (tie.spec
-    Inv-loop
-    μ-loop
-    loop-holds
-    mul-output
-    shared-slice-read-output
-    add-put-hour
-    put-hour-requires
-    add-i
-    loop-less
-    loop-again
-    same-length
-    returns)
+    tie.close (tie.spec Inv-loop μ-loop loop-holds mul-t10 shared-slice-read-t12 cast-t12 add-t15 put-hour-requires
+    add-i loop-less loop-again same-length returns)
