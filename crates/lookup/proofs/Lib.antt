@@ -1,2 +1,2 @@
 -- Laws behind the choice of an hour.
-pub mod Locks
+pub mod AheadLaws

@@ -1,9 +1,7 @@
 // The choice of an hour, from what the states after it are worth: looked up in the layer's slot or in a kept row of the
 // lock, or made again from the next layer that is kept. The definitions are those of machine's specs/Moves, cells'
-// specs/Table and layers' specs/Saved. Each function is called by crates of this repository, which keep what it asks
+// specs/Table, slots' specs/Saved and locks' specs/Locked. Each function is called by crates of this repository, which keep what it asks
 // for.
-pub mod lock;
-
 use cells::Pick;
 use machine::Charges;
 use machine::ENTRIES;
@@ -25,7 +23,8 @@ ghost use Rattle.machine.specs.Proper.{Proper};
 ghost use Rattle.cells.specs.Picks.{pickOf};
 ghost use Rattle.cells.specs.Table.{Sized, Ahead, Entries, Day, entry, lockOf, cellsOf};
 ghost use Rattle.machine.specs.Lengths.{sideLength};
-ghost use Rattle.layers.specs.Saved.{RowAt, SavedAt, Slotted, Saved, Locked, lockEnd};
+ghost use Rattle.slots.specs.Saved.{RowAt, SavedAt, Slotted, Saved};
+ghost use Rattle.locks.specs.Locked.{Locked, lockEnd};
 
 // From the layer at `off`, where no lock is looked at.
 pub fn from_slot(u: Unit, t: Terms, s: State, off: usize, work: &[i64], e: HalfMills) -> Pick
@@ -102,7 +101,7 @@ pub fn from_again(
     let mut row = [0i64; ROW];
     let mut side = [0i64; SIDE];
     let after = k.next();
-    layers::layer_at(
+    slots::layer_at(
         u,
         charges,
         margins,
@@ -148,7 +147,7 @@ pub fn choose(
     let after = k.next();
     let e = money::value_at(entries, after.0 as usize);
     let t = cells::terms_at(margins, orders, charges, k);
-    let b = lock::end_of(u, k, s);
+    let b = locks::end_of(u, k, s);
     if after.0 < b.0 {
         let at = (b.0 - after.0 - 1) as usize;
         return from_row(u, t, s, at * ROW, kept, e);

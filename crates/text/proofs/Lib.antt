@@ -1,3 +1,2 @@
--- Laws of the crate's own definitions.
-pub mod PutsLaws
+-- Laws of the text of a file.
 pub mod PlanLaws

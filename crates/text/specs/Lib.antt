@@ -1,3 +1,2 @@
 -- What the contracts of the crate's own functions cite.
 pub mod Lines
-pub mod Puts

@@ -1,9 +1,6 @@
 // The text that the program prints for an input, in lent bytes: model's specs/Printed say what `print` answers and
 // leaves. An input longer than a case may be is refused by 1 in the text itself; a text longer than the lent bytes is
 // refused by 10, and every lent byte stays.
-mod lines;
-mod parts;
-
 ghost use mathlib.Core.Path.{_≡_};
 ghost use Prim.Native.Nat.{_≤_};
 ghost use lib.ListN.{length};
@@ -11,7 +8,7 @@ ghost use Rattle.model.specs.Limits.{mostHours, workLength};
 ghost use Rattle.model.specs.Answers.{readOf};
 ghost use Rattle.model.specs.Printed.{readText, printedOf, printingOf};
 ghost use Rattle.text.specs.Lines.{longest};
-ghost use Rattle.text.specs.Puts.{Puts};
+ghost use Rattle.lines.specs.Puts.{Puts};
 use model::HOURS;
 use model::INPUT;
 use model::Plan;
@@ -65,6 +62,6 @@ pub fn print(input: &[u8], text: &mut [u8]) -> Written
     if text.len() < n {
         return Written::Refused(10);
     }
-    parts::put(text, 0, &whole[..n]);
+    lines::parts::put(text, 0, &whole[..n]);
     Written::Bytes(n)
 }

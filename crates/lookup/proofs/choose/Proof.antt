@@ -7,17 +7,18 @@ use mathlib.Core.Path.{_≡_, sym, ap, _∙_, subst}
 use Prim.Native.Nat.{ℕ, suc, _-_, _*_, _/_, _<_}
 use lib.ListN.{getD}
 use lib.IntN.{pos}
-use Rattle.model.specs.Limits.{mostOutput}
+use Rattle.machine.specs.Lengths.{rowLength}
 use Rattle.machine.specs.declared.Terms.{Terms}
 use Rattle.machine.specs.Search.{choiceAt}
 use Rattle.machine.specs.Moves.{dayOf, machine, worth, chosen}
 use Rattle.machine.proofs.Table.Choices.{choice-chosen}
 use Rattle.cells.specs.Picks.{pickOf}
 use Rattle.cells.specs.Table.{entry, lockOf}
-use Rattle.layers.specs.Saved.{RowAt, SavedAt}
-use Rattle.layers.proofs.Slots.{slot-room}
+use Rattle.slots.specs.Saved.{RowAt, SavedAt}
+use Rattle.slots.proofs.Slots.{slot-room}
 use Rattle.rows.proofs.Ends.{sized-at}
-use Rattle.lookup.proofs.Locks.{lock-small, slot-at}
+use Rattle.lookup.proofs.AheadLaws.{slot-at}
+use Rattle.locks.proofs.LockedLaws.{lock-small}
 use Rattle.lookup.proofs.choose.Statement.{statement}
 use Rattle.lookup.proofs.choose.Tie as tie
 
@@ -54,7 +55,7 @@ module _ (c : tie.After-end-of) where
   row : c .before .before .before .before .before .next .result .0 < c .end-of .result .0
       → RowAt (start c .args .u) (worth (start c .args .u) (day c) (suc (start c .args .k .0)))
       (lockOf (start c .args .s) - 1) ((c .end-of .result .0
-      - c .before .before .before .before .before .next .result .0 - 1) * mostOutput)
+      - c .before .before .before .before .before .next .result .0 - 1) * rowLength)
       (start c .args .kept .now)
   row h =
       let s = start c in
@@ -63,7 +64,7 @@ module _ (c : tie.After-end-of) where
       let j = lockOf (a .s) - 1 in
       let b = c .end-of .ensures in
       let until = s .pre .1 .1 .1 .1 .1 (omega (arith, after, b)) in
-      subst (λ (n : ℕ). RowAt (a .u) (worth (a .u) (day c) k) j (n * mostOutput) (a .kept .now))
+      subst (λ (n : ℕ). RowAt (a .u) (worth (a .u) (day c) k) j (n * rowLength) (a .kept .now))
       (omega (arith, until, after, b))
       (s .pre .1 .1 .1 .1 .0 .at k j (omega arith) (omega (arith, until, after, b)) until)
 

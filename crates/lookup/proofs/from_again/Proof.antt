@@ -5,9 +5,10 @@ use native.Mathlib.Numerals.{add-one}
 use mathlib.Core.Path.{refl, _∙_}
 use Prim.Native.Nat.{suc, _≤_}
 use Rattle.machine.specs.Moves.{dayOf, worth}
+use Rattle.machine.specs.Lengths.{rowLength}
 use Rattle.cells.specs.Table.{cellsOf, lockOf}
 use Rattle.layers.proofs.EntryLaws.{layer-at}
-use Rattle.lookup.proofs.Locks.{ahead-again}
+use Rattle.lookup.proofs.AheadLaws.{ahead-again}
 use Rattle.lookup.proofs.from_again.Statement.{statement}
 use Rattle.lookup.proofs.from_again.Tie as tie
 
@@ -19,7 +20,7 @@ layer-at-requires c κs =
     let s = c .before .before .before .before in
     let q = s .pre .1 .1 in
     let f = s .pre .0 in
-    let wide : cellsOf (s .args .u) ≤ 400 = omega (arith, f .capacity-le, f .minimum-pos) in (
+    let wide : cellsOf (s .args .u) ≤ rowLength = omega (arith, f .capacity-le, f .minimum-pos) in (
       f,
       (
         s .pre .1 .0,

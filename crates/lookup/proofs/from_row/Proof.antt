@@ -1,7 +1,7 @@
 -- `lookup::from_row` meets its contract: inside a lock no side is looked at. Assumes nothing.
 use borrow.Author.Needs.{needs}
 use native.Mathlib.Omega.{arith}
-use Rattle.lookup.proofs.Locks.{ahead-row}
+use Rattle.lookup.proofs.AheadLaws.{ahead-row}
 use Rattle.lookup.proofs.from_row.Statement.{statement}
 use Rattle.lookup.proofs.from_row.Tie as tie
 

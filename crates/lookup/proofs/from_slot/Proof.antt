@@ -2,7 +2,7 @@
 use borrow.Author.Needs.{needs}
 use native.Mathlib.Omega.{arith}
 use mathlib.Core.Path.{refl}
-use Rattle.lookup.proofs.Locks.{ahead-slot}
+use Rattle.lookup.proofs.AheadLaws.{ahead-slot}
 use Rattle.lookup.proofs.from_slot.Statement.{statement}
 use Rattle.lookup.proofs.from_slot.Tie as tie
 

@@ -10,7 +10,7 @@ use Rattle.model.specs.declared.Written.the-variants.{Bytes}
 use Rattle.model.specs.Printed.{printedOf}
 use Rattle.model.proofs.PrintedLaws.{printingOf-short, printingOf-done}
 use Rattle.text.specs.Lines.{longest}
-use Rattle.text.proofs.PutsLaws.{puts-front}
+use Rattle.lines.proofs.PutsLaws.{puts-front}
 use Rattle.text.proofs.print.Statement.{statement}
 use Rattle.text.proofs.print.Tie as tie
 

@@ -1,0 +1,2 @@
+-- Laws of the crate's own definitions.
+pub mod PutsLaws

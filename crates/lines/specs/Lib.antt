@@ -1,0 +1,2 @@
+-- What the contracts of the crate's own functions cite.
+pub mod Puts

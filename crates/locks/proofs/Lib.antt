@@ -1,0 +1,2 @@
+-- Laws behind the kept rows of a lock.
+pub mod LockedLaws

@@ -1,0 +1,2 @@
+-- Definitions that the contracts of the locks cite.
+pub mod Locked

@@ -1,0 +1,83 @@
+-- What a choice looks at. Assumes nothing.
+use mathlib.Core.Path.{_≡_, sym, ap, _∙_, subst}
+use mathlib.Core.List.{List}
+use Prim.Native.Nat.{ℕ, suc, _+_, _-_, _*_, _/_, _%_, _≤_, _<_}
+use native.Mathlib.Nat.{div-add-mod'}
+use native.Mathlib.Omega.{arith}
+use lib.ListN.{length, getD, take, drop, length-take, length-drop}
+use lib.Seq.{getD-take, getD-drop}
+use lib.IntN.{ℤ, pos}
+use Rattle.machine.specs.Lengths.{sideLength}
+use Rattle.machine.specs.declared.Unit.{Unit}
+use Rattle.machine.specs.declared.Terms.{Terms}
+use Rattle.machine.specs.Moves.{worth, Worths}
+use Rattle.machine.specs.Fit.{Fit, Fair}
+use Rattle.cells.specs.Table.{Sized, Row, SideCell, Layer, Ahead, cellsOf}
+use Rattle.rows.proofs.Ends.{row-to, sized-at}
+use Rattle.slots.specs.Saved.{RowAt, SavedAt, Saved}
+use Rattle.slots.proofs.Slots.{cells-side}
+use Rattle.locks.specs.Locked.{lockEnd}
+use Rattle.locks.proofs.LockedLaws.{lock-start}
+
+module _ (u : Unit) (day : ℕ → Terms) where
+  -- the layer of an hour that has a slot
+  pub slot-at : (l n k : ℕ) {xs : List ℤ} → k % l ≡ 0 → k < u .hours .0 → Saved u day l n 0 xs
+      → SavedAt u (worth u day k) (k / l * n) xs
+  slot-at l n k {xs} e h s =
+      let d : k / l * l ≡ k = omega (arith, div-add-mod' k l) in
+      subst (λ m. SavedAt u (worth u day m) (k / l * n) xs) d (s .at (k / l) (omega arith) (omega arith))
+
+  -- the layer after the hour, where no lock goes beyond it
+  pub ahead-again : Fit u → ((k : ℕ) → Fair (day k)) → (k j : ℕ) {xs ys : List ℤ} → k < u .hours .0
+      → lockEnd u (suc k) (j - 1) ≤ suc k → Layer u (worth u day (suc k)) xs ys
+      → Ahead u (worth u day (suc k)) j xs ys
+  ahead-again fit fair k j h e l =
+      let sized = sized-at u day fit fair (suc k) in
+      record {
+        across = record { sized = sized; row = lock-start u day (suc k) (j - 1) (omega arith) (l .row) };
+        beside = λ few. record { sized = sized; side = l .side };
+      }
+
+module _ (u : Unit) (w : Worths) (sized : Sized w) (off : ℕ) (xs : List ℤ) where
+  -- a part that begins at off
+  part-at : (m i : ℕ) → i < m - off → getD (take (m - off) (drop off xs)) i (pos 0) ≡ getD xs (off + i) (pos 0)
+  part-at m i h = getD-take (m - off) (drop off xs) i (pos 0) h ∙ getD-drop off xs i (pos 0)
+
+  part-row : (j m : ℕ) → m ≡ off + cellsOf u → m ≤ length xs → RowAt u w j off xs
+      → Row u w j (cellsOf u) (take (m - off) (drop off xs))
+  part-row j m e h r =
+      record {
+        few = omega arith;
+        long = omega (arith, length-take (m - off) (drop off xs), length-drop off xs);
+        at = λ i l. part-at m i (omega arith) ∙ r .at i l;
+      }
+
+  -- a kept row inside a lock, whatever the side
+  pub ahead-row : (j m : ℕ) {ys : List ℤ} → 1 < j → m ≡ off + cellsOf u → m ≤ length xs → RowAt u w (j - 1) off xs
+      → Ahead u w j (take (m - off) (drop off xs)) ys
+  ahead-row j m h e l r =
+      record {
+        across = record { sized = sized; row = part-row (j - 1) m e l r };
+        beside = λ few. absurd (omega arith);
+      }
+
+-- a layer in its slot, where no lock is looked at
+pub ahead-slot : (u : Unit) → Fit u → (w : Worths) → Sized w → (off : ℕ) (xs : List ℤ) (j m z : ℕ) → j ≤ 1
+    → m ≡ off + cellsOf u → z ≡ m + sideLength → z ≤ length xs → SavedAt u w off xs
+    → Ahead u w j (take (m - off) (drop off xs)) (take (z - m) (drop m xs))
+ahead-slot u fit w sized off xs j m z h e d l s =
+    record {
+      across = record {
+        sized = sized;
+        row = row-to (omega arith) (part-row u w sized off xs 0 m e (omega arith) (s .row));
+      };
+      beside = λ few. record {
+        sized = sized;
+        side = cells-side w fit (omega (arith, length-take (z - m) (drop m xs), length-drop m xs)) cell;
+      };
+    }
+  where
+    cell : (c : ℕ) → c < sideLength → SideCell u w c (getD (take (z - m) (drop m xs)) c (pos 0))
+    cell c k =
+        subst (SideCell u w c)
+        (ap (λ n. getD xs (n + c) (pos 0)) (sym e) ∙ sym (part-at u w sized m xs z c (omega arith))) (s .side c k)

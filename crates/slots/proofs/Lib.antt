@@ -1,0 +1,3 @@
+-- Laws behind the slots.
+pub mod Slots
+pub mod Strides

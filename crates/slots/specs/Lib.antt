@@ -1,0 +1,2 @@
+-- Definitions that the contracts of the slots cite.
+pub mod Saved
