@@ -1,9 +1,9 @@
 """Finds limits, sizes and bounds that stand as literals in crates/ where their names should.
 
 A limit of document 01 has one name in crates/model/src/lib.rt and one in its specs/Limits, a bound of a sum one in
-crates/machine/specs/Bounds; a size is derived from them by formula. The second views of model/specs, Days and Promises
-hold the published numbers on purpose. A number that is a limit in one place and a rule's or a refusal's number in another
-counts only after a comparison, where it bounds something.
+crates/machine/specs/Bounds; a size is derived from them by formula. The second views of model/specs, Days, Promises
+and the program known_days hold the published numbers on purpose. A number that is a limit in one place and a rule's
+or a refusal's number in another counts only after a comparison, where it bounds something.
 """
 
 import pathlib
@@ -14,7 +14,7 @@ ROOT = pathlib.Path(__file__).resolve().parents[2]
 
 NAMED = ("model/src/lib.rt", "model/specs/Limits.antt", "machine/specs/Bounds.antt")
 VIEWS = tuple(f"model/{name}.antt" for name in ("specs/Published", "specs/Words", "specs/Days", "specs/Promises"))
-VIEWS += ("model/proofs/Days.antt",)
+VIEWS += ("model/proofs/Days.antt", "known_days/src/main.rt")
 # what stands for something else: the number of a refusal, the size of a 64-bit number
 NUMBERED = {"model/proofs/RefusalsLaws.antt": ["≤ 8"], "laws/proofs/Magnitude.antt": ["2 ^ 63"]}
 

@@ -3,7 +3,7 @@ use mathlib.Core.Path.{_≡_, refl, sym, ap, _∙_, subst}
 use mathlib.Core.Bool.{true, false, true≢false}
 use mathlib.Core.List.{List, _++_}
 use mathlib.Core.Option.{Option, none, some}
-use Prim.Native.Nat.{ℕ, _^_}
+use Prim.Native.Nat.{ℕ}
 use native.Mathlib.Omega.{arith}
 use lib.IntN.{ℤ}
 use lib.ListN.{length, drop}
@@ -17,6 +17,7 @@ use Rattle.model.specs.Refusals.{refusalOf}
 use Rattle.model.specs.Answers.{cleared, planned}
 use Rattle.machine.specs.Coded.{missing, coded, Bounded, amount}
 use Rattle.machine.specs.Search.{maybe}
+use Rattle.machine.specs.Bounds.{mostWorth}
 use Rattle.machine.specs.Fit.{Fit, Fair}
 use Rattle.machine.specs.Cases.{unitOf, termsOf, openingOf}
 use Rattle.machine.proofs.Table.CodedLaws.{low}
@@ -25,8 +26,8 @@ use Rattle.machine.proofs.Bridge.Bests.{worth-profit, worth-none, planAt-best, 
 use Rattle.cells.specs.Table.{Found}
 
 -- a worth of a day is above the code of none
-amount-above : (v : ℤ) → Bounded (2 ^ 42) (some v) → leZ v missing ≡ false
-amount-above v (amount b) = low (2 ^ 42) (omega arith) v b
+amount-above : (v : ℤ) → Bounded mostWorth (some v) → leZ v missing ≡ false
+amount-above v (amount b) = low mostWorth (omega arith) v b
 
 module _ (c : Case) (e : refusalOf c ≡ 0) (fit : Fit (unitOf c))
     (fair : (k : ℕ) → Fair (termsOf c k)) (work : List ℤ) (ys zs : List ℕ) (z : ℤ)
@@ -36,7 +37,7 @@ module _ (c : Case) (e : refusalOf c ≡ 0) (fit : Fit (unitOf c))
   present l b =
       let w = worth-profit c e l b in
       rw (found .profit ∙ ap coded w)
-      (amount-above (profitOf c l) (subst (Bounded (2 ^ 42)) w
+      (amount-above (profitOf c l) (subst (Bounded mostWorth) w
       (worth-size (unitOf c) fit (termsOf c) fair 0 (openingOf c))))
 
   absent : bestDay c ≡ none → leZ z missing ≡ true

@@ -4,7 +4,7 @@ ghost use mathlib.Core.Path.{_≡_};
 ghost use Prim.Native.Nat.{ℕ, _≤_, _<_};
 ghost use lib.ListN.{getD, replicate};
 ghost use lib.IntN.{pos, _-ℤ_};
-ghost use Rattle.model.specs.Limits.{mostStages, mostHours};
+ghost use Rattle.model.specs.Limits.{mostStages, mostHours, words};
 ghost use Rattle.model.specs.Layout.{padded, noOutput};
 ghost use Rattle.model.specs.Refusals.{refusalOf};
 ghost use Rattle.machine.specs.Cases.{unitOf, chargesOf, openingOf};
@@ -37,7 +37,7 @@ pub(crate) fn margins(prices: [u16; HOURS], variable: u32, n: usize, to: &mut [i
     requires { ⌜ (n ≤ mostHours) × (now to ≡ replicate mostHours (pos 0)) ⌝ }
     ensures { λ _. ⌜ now (to .exit)
         ≡ padded (pos 0) (λ k. pos (getD prices k 0) -ℤ pos variable) n mostHours ⌝ }
-    ensures { λ _. ⌜ ((k : ℕ) → getD prices k 0 < 65536) ⌝ }
+    ensures { λ _. ⌜ ((k : ℕ) → getD prices k 0 < words) ⌝ }
 {
     let mut k = 0;
     while k < n {

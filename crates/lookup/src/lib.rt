@@ -1,7 +1,7 @@
 // The choice of an hour, from what the states after it are worth: looked up in the layer's slot or in a kept row of the
 // lock, or made again from the next layer that is kept. The definitions are those of machine's specs/Moves, cells'
-// specs/Table, slots' specs/Saved and locks' specs/Locked. Each function is called by crates of this repository, which keep what it asks
-// for.
+// specs/Table, slots' specs/Saved and locks' specs/Locked. Each function is called by crates of this repository, which
+// keep what it asks for.
 use cells::Pick;
 use machine::Charges;
 use machine::ENTRIES;

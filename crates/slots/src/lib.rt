@@ -1,6 +1,6 @@
 // Every l-th layer of a day in a slot of its own among the working numbers: how wide a slot is and how many layers from
-// one to the next, a layer into its slot and out of it, and the layer of any hour, made again from the next that is kept.
-// The definitions are those of specs/Saved and of cells' specs/Table. Each function is called by crates of this
+// one to the next, a layer into its slot and out of it, and the layer of any hour, made again from the next that is
+// kept. The definitions are those of specs/Saved and of cells' specs/Table. Each function is called by crates of this
 // repository, which keep what it asks for.
 use machine::Charges;
 use machine::ENTRIES;

@@ -15,7 +15,8 @@ counted-requires-3 c κs = tt
 
 returns : tie.Need-returns
 unfolding refusal2
-returns c = λ j. not (c .before .before .counted .ensures j && (c .before .counted2 .ensures j && c .counted3 .ensures j))
+returns c =
+    λ j. not (c .before .before .counted .ensures j && (c .before .counted2 .ensures j && c .counted3 .ensures j))
 
 pub refusal2-spec : {M : Type 1} → statement M
 refusal2-spec = tie.close (tie.spec counted-requires counted-requires-2 counted-requires-3 returns)
