@@ -21,13 +21,14 @@ ghost use Rattle.model.specs.Refusals.{refusalOf};
 ghost use Rattle.hours.specs.Counted.{Counted};
 ghost use Rattle.hours.specs.Numbered.{Numbered};
 
-// Of hour k.
+// Of hour k, which counts from 1 as in the rules; at hour 0 both outputs are p(0), and there is no mark of a start or a
+// stop. Marks and counts of marks are bare numbers.
 pub struct Numbers {
     // p(k) and p(k−1)
     pub output: Output,
     pub earlier: Output,
     pub marks: Marks,
-    // the start-up and the shut-down that hour k lies in
+    // the start-ups and the shut-downs that hour k lies in, counted, with what they prescribe
     pub startup: Sequence,
     pub shutdown: Sequence,
     // stops in DD and in UD + DD − 1 hours from hour k

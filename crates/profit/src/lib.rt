@@ -53,7 +53,7 @@ fn hour_profit(case: Case, over: HalfMills, q: Output, p: Output) -> HalfMills
     difference(gain, charge_of(case, marks_of(q, p)))
 }
 
-// The profit of the day, for a list of any length.
+// The profit of the day, for a list of any length. The price of hour k + 1 stands at place k.
 pub fn profit_of(case: Case, list: &[u16]) -> HalfMills
     requires { ⌜ refusalOf case ≡ 0 ⌝ }
     ensures { λ r. ⌜ Worth (profitOf case (now (list .entry))) mostProfit (r .0) ⌝ }

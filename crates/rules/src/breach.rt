@@ -17,7 +17,7 @@ ghost use Rattle.model.specs.Rules.{breachFrom, breach};
 ghost use Rattle.hours.specs.Counted.{Counted};
 ghost use Rattle.rules.specs.Found.{found};
 
-// The first breach of the hours from 1 on; its rule is 0 where there is none.
+// The first breach of the hours from 1 on; its rule is 0 where there is none. The order of hour k is at place k − 1.
 fn later_breach(case: Case, list: &[u16], starts: &[u8; COUNTS], stops: &[u8; COUNTS]) -> Breach
     requires { ⌜ refusalOf case ≡ 0 ⌝ }
     requires { ⌜ Counted case (now list) (now starts) (now stops) ⌝ }

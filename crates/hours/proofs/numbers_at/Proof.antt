@@ -39,7 +39,7 @@ add-t19 : tie.Need-add-t19
 add-t19 c = let h = limits (first c) in omega (arith, h .hours-le, h .rises-le, h .falls-le, first c .pre .1 .0)
 
 sub-t20 : tie.Need-sub-t20
-sub-t20 c = omega (arith, limits (first c) .rises-pos)
+sub-t20 c = let h = limits (first c) in omega (arith, h .rises-pos, h .falls-pos)
 
 output-at-requires : tie.Need-output-at-requires
 output-at-requires c κs = search needs
