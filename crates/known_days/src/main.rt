@@ -4,15 +4,23 @@
 use libc::STDIN_FILENO;
 use libc::STDOUT_FILENO;
 use model::Case;
+use model::FRONT_BYTES;
+use model::HOUR_BYTES;
 use model::HOURS;
 use model::HalfMills;
 use model::Hour;
 use model::Output;
 use model::Plan;
 use model::Reading;
+use model::STAGE_BYTES;
 use model::STAGES;
 use model::Verdict;
 use model::WORK;
+
+// The hours of the source's day, and the bytes of its case, which has six outputs of trajectories.
+const DAY: usize = 24;
+
+const SOURCE: usize = FRONT_BYTES + 6 * STAGE_BYTES + DAY * HOUR_BYTES;
 
 // A word, and a number after it.
 fn print_number(word: &[u8], n: u64) {
@@ -28,8 +36,8 @@ fn print_profit(v: HalfMills) {
     }
 }
 
-fn print_output(output: u16) {
-    print_number(b" ", output as u64);
+fn print_output(output: Output) {
+    print_number(b" ", output.0 as u64);
 }
 
 // The first hours of a list.
@@ -37,7 +45,8 @@ fn print_list(outputs: &[u16], hours: usize) {
     let mut k = 0;
     while k < outputs.len() {
         if k < hours {
-            print_output(outputs[k]);
+            let output = outputs[k];
+            print_output(Output(output));
         }
         k += 1;
     }
@@ -82,9 +91,9 @@ fn print_check(name: &[u8], reading: Reading, list: &[u16]) {
 
 // A day of the scope's small unit: p(0), h, minimum down time, T, the price of every hour, the orders.
 fn small(
-    initial: u16,
-    elapsed: u16,
-    mindown: u16,
+    initial: Output,
+    elapsed: Hour,
+    mindown: Hour,
     hours: usize,
     price: u16,
     orders: [u8; HOURS],
@@ -101,13 +110,13 @@ fn small(
         rampup: Output(1),
         rampdown: Output(1),
         minup: Hour(1),
-        mindown: Hour(mindown),
+        mindown: mindown,
         variable: 10,
         fixed: 1,
         startcost: 3,
         stopcost: 2,
-        initial: Output(initial),
-        elapsed: Hour(elapsed),
+        initial: initial,
+        elapsed: elapsed,
         rise: rise,
         fall: fall,
         prices: [price; HOURS],
@@ -118,33 +127,49 @@ fn small(
     })
 }
 
-// The twelve known days.
-fn print_known() {
+// The known days 1 to 7, which have no orders.
+fn print_free() {
     let free = [0u8; HOURS];
-    print_best(b"1", small(0, 2, 1, 1, 10, free));
-    print_best(b"2", small(0, 2, 1, 1, 18, free));
-    print_best(b"3", small(0, 2, 1, 1, 19, free));
-    print_best(b"4", small(2, 2, 1, 1, 10, free));
-    print_best(b"5", small(2, 2, 1, 2, 5, free));
-    print_best(b"6", small(3, 2, 1, 2, 5, free));
-    print_best(b"7", small(3, 2, 1, 3, 5, free));
+    print_best(b"1", small(Output(0), Hour(2), Hour(1), 1, 10, free));
+    print_best(b"2", small(Output(0), Hour(2), Hour(1), 1, 18, free));
+    print_best(b"3", small(Output(0), Hour(2), Hour(1), 1, 19, free));
+    print_best(b"4", small(Output(2), Hour(2), Hour(1), 1, 10, free));
+    print_best(b"5", small(Output(2), Hour(2), Hour(1), 2, 5, free));
+    print_best(b"6", small(Output(3), Hour(2), Hour(1), 2, 5, free));
+    print_best(b"7", small(Output(3), Hour(2), Hour(1), 3, 5, free));
+}
+
+// The known days 8 to 12: those with orders, and the lists that are checked.
+fn print_ordered() {
+    let free = [0u8; HOURS];
     let mut orders = free;
     orders[1] = 1;
     orders[3] = 2;
-    print_best(b"8", small(0, 2, 1, 4, 10, orders));
-    print_check(b"9", small(0, 2, 1, 1, 10, free), &[2u16]);
-    print_check(b"10", small(2, 2, 1, 1, 10, free), &[4u16]);
-    print_best(b"11", small(0, 1, 2, 1, 10, [1u8; HOURS]));
+    print_best(b"8", small(Output(0), Hour(2), Hour(1), 4, 10, orders));
+    print_check(
+        b"9",
+        small(Output(0), Hour(2), Hour(1), 1, 10, free),
+        &[2u16],
+    );
+    print_check(
+        b"10",
+        small(Output(2), Hour(2), Hour(1), 1, 10, free),
+        &[4u16],
+    );
+    print_best(
+        b"11",
+        small(Output(0), Hour(1), Hour(2), 1, 10, [1u8; HOURS]),
+    );
     orders[0] = 2;
-    print_best(b"12", small(0, 2, 1, 4, 10, orders));
+    print_best(b"12", small(Output(0), Hour(2), Hour(1), 4, 10, orders));
 }
 
 // The prices of two days that are alike.
 fn twice(prices: [u16; HOURS]) -> [u16; HOURS] {
     let mut both = prices;
     let mut k = 0;
-    while k < 24 {
-        both[k + 24] = prices[k];
+    while k < DAY {
+        both[k + DAY] = prices[k];
         k += 1;
     }
     both
@@ -158,7 +183,7 @@ fn print_source(file: &[u8]) {
     let prices = case.prices;
     let both = twice(prices);
     case.prices = both;
-    case.hours = 48;
+    case.hours = 2 * DAY;
     print_best(b"source twice", codec::admit(case));
 }
 
@@ -191,15 +216,15 @@ fn print_lists(file: &[u8]) {
         144,
     ];
     print_check(b"source, printed list", codec::read(file), &list);
-    print_check(b"source, 120 held", codec::read(file), &[120u16; 24]);
-    print_check(b"source, 115 held", codec::read(file), &[115u16; 24]);
-    print_check(b"source, 23 outputs", codec::read(file), &[120u16; 23]);
+    print_check(b"source, 120 held", codec::read(file), &[120u16; DAY]);
+    print_check(b"source, 115 held", codec::read(file), &[115u16; DAY]);
+    print_check(b"source, 23 outputs", codec::read(file), &[120u16; DAY - 1]);
 }
 
 fn main() {
-    print_known();
-    // as many bytes as the source's case has, and one more
-    let mut file = [0u8; 133];
+    print_free();
+    print_ordered();
+    let mut file = [0u8; SOURCE + 1];
     let n = io::read_full(STDIN_FILENO, &mut file);
     print_source(&file[..n]);
     print_lists(&file[..n]);

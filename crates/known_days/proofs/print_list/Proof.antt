@@ -15,11 +15,11 @@ abbrev μ-loop : tie.MeasureT-loop
 loop-holds : tie.Need-loop-holds Inv-loop μ-loop
 loop-holds c = omega arith
 
-mul-print-output : tie.Need-mul-print-output Inv-loop μ-loop
-mul-print-output c = search needs
+mul-output : tie.Need-mul-output Inv-loop μ-loop
+mul-output c = search needs
 
-shared-slice-read-print-output : tie.Need-shared-slice-read-print-output Inv-loop μ-loop
-shared-slice-read-print-output c = search needs
+shared-slice-read-output : tie.Need-shared-slice-read-output Inv-loop μ-loop
+shared-slice-read-output c = search needs
 
 print-output-requires : tie.Need-print-output-requires Inv-loop μ-loop
 print-output-requires c κs = search needs
@@ -38,15 +38,5 @@ returns c = search needs
 
 pub print-list-spec : {M : Type 1} → statement M
 print-list-spec =
-    tie.close
-    (tie.spec
-    Inv-loop
-    μ-loop
-    loop-holds
-    mul-print-output
-    shared-slice-read-print-output
-    print-output-requires
-    add-k
-    loop-less
-    loop-again
-    returns)
+    tie.close (tie.spec Inv-loop μ-loop loop-holds mul-output shared-slice-read-output print-output-requires add-k
+    loop-less loop-again returns)
