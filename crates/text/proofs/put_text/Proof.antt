@@ -11,7 +11,7 @@ put-refused-requires c κs = omega (arith, length-refusedLine 1 (omega arith))
 returns : tie.Need-returns
 returns c =
     let taken = c .before .before in
-    let e = printedOf-long (taken .before .before .args .input .now) (taken .if1 .taken) in (
+    let e = printedOf-long (taken .before .before .args .input .now) (omega (arith, taken .if1 .taken)) in (
       rw e (c .put-refused .ensures),
       omega (arith, c .put-refused .ensures .place, length-refusedLine 1 (omega arith)),
     )
@@ -29,7 +29,7 @@ returns-2 : tie.Need-returns-2
 returns-2 c =
     let call = c .before .before in
     let left = call .before .before .before .before in
-    let e = printedOf-read (left .before .before .args .input .now) (left .if1 .left) in
+    let e = printedOf-read (left .before .before .args .input .now) (omega (arith, left .if1 .left)) in
     (rw e (call .put-best .ensures .0), call .put-best .ensures .1)
 
 pub put-text-spec : {M : Type 1} → statement M
