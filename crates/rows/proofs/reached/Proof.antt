@@ -25,12 +25,5 @@ returns c = c .least .ensures ∙ rw (c .before .cells-of .ensures) refl
 
 pub reached-spec : {M : Type 1} → statement M
 reached-spec =
-    tie.close
-    (tie.spec
-    (λ c. search needs)
-    (λ c. search needs)
-    mul-least
-    add-least
-    (λ c κs. search needs)
-    (λ c κs. search needs)
-    returns)
+    tie.close (tie.spec (λ c. search needs) (λ c. search needs) mul-least add-least (λ c κs. search needs)
+    (λ c κs. search needs) returns)
