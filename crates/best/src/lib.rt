@@ -21,21 +21,11 @@ ghost use lib.ListN.{length, drop};
 ghost use Rattle.model.specs.Limits.{workLength};
 ghost use Rattle.model.specs.Best.{bestDay};
 ghost use Rattle.model.specs.Refusals.{refusalOf};
-ghost use Rattle.model.specs.Answers.{outcomeNumber, planned, scheduleOf};
+ghost use Rattle.model.specs.Answers.{planned, scheduleOf};
 ghost use Rattle.machine.specs.Moves.{dayOf};
 ghost use Rattle.machine.specs.Fit.{Fit};
 ghost use Rattle.machine.specs.Proper.{Proper};
 ghost use Rattle.cells.specs.Table.{Day, Found};
-
-// The number of a refused reading.
-fn number_of(outcome: Outcome) -> u8
-    ensures { λ r. ⌜ r ≡ outcomeNumber outcome ⌝ }
-{
-    match outcome {
-        Outcome::Accepted => 0,
-        Outcome::Refused(number) => number,
-    }
-}
 
 // The search in the first working numbers; those past them stay as they are.
 fn search_first(
@@ -96,7 +86,7 @@ pub fn schedule(reading: Reading, work: &mut [i64], outputs: &mut [u16]) -> Plan
 {
     let outcome = reading.outcome;
     let Outcome::Accepted = outcome else {
-        return Plan::Refused(number_of(outcome));
+        return Plan::Refused(outcome.number());
     };
     let case = reading.case;
     let refusal = limits::refusal_of(case);

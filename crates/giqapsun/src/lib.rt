@@ -9,7 +9,7 @@ use model::Verdict;
 use model::Written;
 ghost use mathlib.Core.Path.{_≡_};
 ghost use Rattle.model.specs.declared.Outcome.the-variants.{Accepted};
-ghost use Rattle.model.specs.Answers.{outcomeNumber, readOf, writeOf, checkOf, scheduleOf};
+ghost use Rattle.model.specs.Answers.{readOf, writeOf, checkOf, scheduleOf};
 ghost use Rattle.giqapsun.specs.Boundary.{readingOut, writtenOut, verdictOut, planOut};
 
 // The number of a refusal, or 0, and the record: zeros beside a refusal.
@@ -42,22 +42,13 @@ pub struct GiqapsunPlan {
     pub profit: HalfMills,
 }
 
-fn number_out(outcome: Outcome) -> u32
-    ensures { λ r. ⌜ r ≡ outcomeNumber outcome ⌝ }
-{
-    match outcome {
-        Outcome::Accepted => 0,
-        Outcome::Refused(number) => number as u32,
-    }
-}
-
 fn reading_out(reading: Reading) -> GiqapsunReading
     ensures { λ r. ⌜ r ≡ readingOut reading ⌝ }
 {
     let outcome = reading.outcome;
     let case = reading.case;
     GiqapsunReading {
-        number: number_out(outcome),
+        number: outcome.number() as u32,
         case,
     }
 }

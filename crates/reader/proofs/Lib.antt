@@ -1,3 +1,2 @@
--- Laws of the crate's own definitions, and of an array that is filled from the front.
-pub mod FilledLaws
+-- Laws of the crate's own definitions.
 pub mod SectionsLaws

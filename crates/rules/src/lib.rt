@@ -15,7 +15,7 @@ ghost use mathlib.Core.Path.{_≡_};
 ghost use lib.ListN.{length};
 ghost use Rattle.model.specs.Rules.{breach};
 ghost use Rattle.model.specs.Refusals.{refusalOf};
-ghost use Rattle.model.specs.Answers.{outcomeNumber, judged, checkOf};
+ghost use Rattle.model.specs.Answers.{judged, checkOf};
 
 // The verdict of a list, for a record within the limits.
 fn judge(case: Case, list: &[u16]) -> Verdict
@@ -31,23 +31,13 @@ fn judge(case: Case, list: &[u16]) -> Verdict
     }
 }
 
-// The number of a refused reading; 0 of an accepted one.
-fn number_of(outcome: Outcome) -> u8
-    ensures { λ r. ⌜ r ≡ outcomeNumber outcome ⌝ }
-{
-    match outcome {
-        Outcome::Accepted => 0,
-        Outcome::Refused(n) => n,
-    }
-}
-
 // The verdict of a list on the case that was read.
 pub fn check(reading: Reading, list: &[u16]) -> Verdict
     ensures { λ r. ⌜ r ≡ checkOf (reading .outcome) (reading .case) (now (list .entry)) ⌝ }
 {
     let outcome = reading.outcome;
     let Outcome::Accepted = outcome else {
-        return Verdict::Refused(number_of(outcome));
+        return Verdict::Refused(outcome.number());
     };
     let case = reading.case;
     let refusal = refusal_of(case);

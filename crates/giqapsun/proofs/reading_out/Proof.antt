@@ -3,11 +3,11 @@ use borrow.Author.Needs.{needs}
 use Rattle.giqapsun.proofs.reading_out.Statement.{statement}
 use Rattle.giqapsun.proofs.reading_out.Tie as tie
 
-number-out-requires : tie.Need-number-out-requires
-number-out-requires c κs = search needs
+number-requires : tie.Need-number-requires
+number-requires c κs = search needs
 
 returns : tie.Need-returns
 returns c = cc
 
 pub reading-out-spec : {M : Type 1} → statement M
-reading-out-spec = tie.close (tie.spec number-out-requires returns)
+reading-out-spec = tie.close (tie.spec number-requires returns)

@@ -14,13 +14,13 @@ enum-told c = search needs
 enum-told-2 : tie.Need-enum-told-2
 enum-told-2 c = search needs
 
-number-of-requires : tie.Need-number-of-requires
-number-of-requires c κs = search needs
+number-requires : tie.Need-number-requires
+number-requires c κs = search needs
 
 returns : tie.Need-returns
 returns c =
     let a = c .before .before .before .before .args in
-    ap NotChecked (c .number-of .ensures)
+    ap NotChecked (c .number .ensures)
     ∙ sym (checkOf-refused (a .reading .case) (a .list .now) (c .before .enum-told2 .given .1))
 
 refusal-of-requires : tie.Need-refusal-of-requires
@@ -70,7 +70,7 @@ check-spec =
     (tie.spec
     enum-told
     enum-told-2
-    number-of-requires
+    number-requires
     returns
     refusal-of-requires
     returns-2

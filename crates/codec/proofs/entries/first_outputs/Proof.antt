@@ -6,7 +6,7 @@ use native.Mathlib.Omega.{arith}
 use lib.ListN.{getD}
 use Rattle.model.specs.Limits.{mostStages}
 use Rattle.model.specs.Layout.{noOutput}
-use Rattle.reader.proofs.FilledLaws.{Filled, filled-start, filled-step, filled-end}
+use Rattle.model.proofs.FilledLaws.{Filled, filled-start, filled-step, filled-end}
 use Rattle.codec.proofs.entries.first_outputs.Statement.{statement}
 use Rattle.codec.proofs.entries.first_outputs.Tie as tie
 

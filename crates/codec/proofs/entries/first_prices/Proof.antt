@@ -5,7 +5,7 @@ use Prim.Native.Nat.{_-_}
 use native.Mathlib.Omega.{arith}
 use lib.ListN.{getD}
 use Rattle.model.specs.Limits.{mostHours}
-use Rattle.reader.proofs.FilledLaws.{Filled, filled-start, filled-step, filled-end}
+use Rattle.model.proofs.FilledLaws.{Filled, filled-start, filled-step, filled-end}
 use Rattle.codec.proofs.entries.first_prices.Statement.{statement}
 use Rattle.codec.proofs.entries.first_prices.Tie as tie
 

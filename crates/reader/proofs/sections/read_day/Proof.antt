@@ -7,7 +7,7 @@ use lib.ListN.{length, getD}
 use Rattle.model.specs.Limits.{mostHours, hourWidth}
 use Rattle.model.proofs.NumbersLaws.{numberAt-one}
 use Rattle.reader.specs.Sections.{priceAt, orderAt, dayOf}
-use Rattle.reader.proofs.FilledLaws.{Filled, filled-start, filled-step, filled-end}
+use Rattle.model.proofs.FilledLaws.{Filled, filled-start, filled-step, filled-end}
 use Rattle.reader.proofs.sections.read_day.Statement.{statement}
 use Rattle.reader.proofs.sections.read_day.Tie as tie
 

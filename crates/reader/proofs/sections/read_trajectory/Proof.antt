@@ -7,7 +7,7 @@ use Rattle.model.specs.declared.Output.{Output}
 use Rattle.model.specs.Limits.{mostStages, stageWidth}
 use Rattle.model.specs.Layout.{noOutput}
 use Rattle.reader.specs.Sections.{stageAt, trajectoryOf}
-use Rattle.reader.proofs.FilledLaws.{Filled, filled-start, filled-step, filled-end}
+use Rattle.model.proofs.FilledLaws.{Filled, filled-start, filled-step, filled-end}
 use Rattle.reader.proofs.sections.read_trajectory.Statement.{statement}
 use Rattle.reader.proofs.sections.read_trajectory.Tie as tie
 
