@@ -37,6 +37,7 @@ fn times_both(output: Output, a: u8, b: u8) -> u64
     times(output, a) + times(output, b)
 }
 
+// (1) and (2): the least output, by the sequence that prescribes one.
 pub fn above_least(low: Output, n: Numbers, s: Sequence) -> bool
     ensures { λ r. ⌜ r ≡ aboveLeast (low .0) n s ⌝ }
 {
@@ -44,12 +45,14 @@ pub fn above_least(low: Output, n: Numbers, s: Sequence) -> bool
     times(low, n.marks.online) + wide(s.output) <= wide(n.output) + inside
 }
 
+// (3) and (4): the greatest output, by the sequence that prescribes one.
 pub fn below_most(high: Output, n: Numbers, s: Sequence) -> bool
     ensures { λ r. ⌜ r ≡ belowMost (high .0) n s ⌝ }
 {
     wide(n.output) + times(high, s.marks) <= wide(s.output) + times(high, n.marks.online)
 }
 
+// (5) and (6): the ramp from the lower output to the higher, waived in the hours of a sequence.
 pub fn within_ramp(
     high: Output,
     ramp: Output,
@@ -64,6 +67,7 @@ pub fn within_ramp(
     wide(higher) + times(ramp, waived) <= wide(lower) + most
 }
 
+// (11) and (12): a start-up and a shut-down meet at the minimum output, where PU ends and PD begins.
 pub fn meets_low(low: Output, n: Numbers) -> bool
     ensures { λ r. ⌜ r ≡ meetsLow (low .0) n ⌝ }
 {

@@ -26,7 +26,8 @@ module _ (c : tie.Start) where
   room : c .args .at + length (hour ++ (output ++ halves)) ≤ length (c .args .out .now)
   room =
       let args = c .args in
-      omega (arith, c .pre, ap length (hourLine-is (args .hour .0) (args .output .0) (args .output .0 + args .before .0)))
+      let parts = hourLine-is (args .hour .0) (args .output .0) (args .output .0 + args .before .0) in
+      omega (arith, c .pre, ap length parts)
 
 -- the call, and the end of the first field, seen from the ends of the fields
 abbrev start : tie.After-put-field → tie.Start
