@@ -1,8 +1,9 @@
-"""Finds names that are brought in or declared and never used.
+"""Finds names that are brought in or declared and never used, and places of a proof that should have a name.
 
-In every .antt and .rt file of crates/: a name of a `use` line that the file does not speak of again. In the law files: a
-lemma that nothing cites, in its own file if it is private, in any file of crates/ if it is public. A ruleset's name,
-an operator and a constructor that a pattern matches count as spoken of wherever their word stands.
+In every .antt and .rt file of crates/: a name of a `use` line that the file does not speak of again. In the law
+files: a lemma that nothing cites, in its own file if it is private, in any file of crates/ if it is public. A
+ruleset's name, an operator and a constructor that a pattern matches count as spoken of wherever their word stands. A
+place of a function that a proof goes more than four steps back to has a name: a `let` or an equation of its own.
 """
 
 import collections
@@ -15,6 +16,10 @@ ROOT = pathlib.Path(__file__).resolve().parents[2]
 USE = re.compile(r"^\s*(?:ghost )?use [^\n{;]*\{([^}]*)\};?$", re.MULTILINE)
 LEMMA = re.compile(r"^( *)(pub )?([a-z][^\s:(){}]*) :(?: |$)", re.MULTILINE)
 COMMENT = re.compile(r"^\s*(--|//).*$", re.MULTILINE)
+
+# a way of over four steps back, and what stands before one that gets a name
+BACK = re.compile(r"(?:\s*\.before\b){5,}")
+NAMING = re.compile(r"(?:\blet [^\s:]+ =|^[ \t]*[^\s:=]+(?: [^\s:=]+)* =)\s+[^\s.()]+\s*$", re.MULTILINE)
 
 # what ends a word
 EDGE = r"[\s(){}\[\];,.λ]"
@@ -68,16 +73,29 @@ def uncited(paths):
     return found
 
 
+def unnamed(path):
+    """The lines on which a proof goes over four steps back to a place that gets no name."""
+    text = path.read_text()
+    found = []
+    for way in BACK.finditer(text):
+        if not NAMING.search(text, max(0, way.start() - 200), way.start()):
+            found.append(text.count("\n", 0, way.start()) + 1)
+    return found
+
+
 def main():
     paths = sorted(p for p in ROOT.glob("crates/**/*") if p.suffix in (".antt", ".rt"))
     faults = [f"{path.relative_to(ROOT)}: {name} is brought in and not used" for path in paths for name in unused(path)]
     faults += [f"{path.relative_to(ROOT)}: nothing cites {name}" for path, name in uncited(paths)]
+    proofs = [path for path in paths if path.suffix == ".antt" and "proofs" in path.parts]
+    for path in proofs:
+        faults += [f"{path.relative_to(ROOT)}: line {line}: a place without a name" for line in unnamed(path)]
     for fault in faults:
         print(f"tidy: {fault}", file=sys.stderr)
     if not paths or faults:
         print(f"tidy: {len(faults)} faults in {len(paths)} files", file=sys.stderr)
         return 1
-    print(f"tidy: {len(paths)} files, every name used")
+    print(f"tidy: {len(paths)} files, every name used, every place named")
     return 0
 
 

@@ -1,9 +1,9 @@
 """Holds every number of the code that is not wrapped against tests/units/bare.txt, which says why it is not.
 
-Megawatts, hours, mills and half-mills are `Output`, `Hour`, `Mills` and `HalfMills`, so that none stands in for another.
-A field, a parameter or a result of a plain number type is a fault unless the table has its name and type for its crate;
-so is a line of the table that nothing needs. Arrays and slices are what a caller lends or what the search works in: an
-entry is wrapped as it is read. Constants have a name each, and a comment that says their unit.
+Megawatts, hours, mills and half-mills are `Output`, `Hour`, `Mills` and `HalfMills`, so that none stands in for
+another. A field, a parameter or a result of a plain number type is a fault unless the table has its name and type for
+its crate; so is a line of the table that nothing needs. Arrays and slices are what a caller lends or what the search
+works in: an entry is wrapped as it is read. Constants have a name each, and a comment that says their unit.
 """
 
 import pathlib
@@ -36,7 +36,7 @@ def table(text):
         if not line.startswith(" "):
             reason = line.strip()
             continue
-        words = re.fullmatch(rf"  (\w+): (.+)", line)
+        words = re.fullmatch(r"  (\w+): (.+)", line)
         if reason is None or words is None:
             raise ValueError(f"line {number} of the table is not `  crate: name type, name type`")
         for entry in words.group(2).split(", "):

@@ -24,12 +24,13 @@ same-length-2 c = search needs
 
 returns : tie.Need-returns
 returns c =
-    let a = c .before .before .before .before .before .before .before .before .before .args in
+    let admitted = c .before .before .before .before .before .before .before in
+    let a = admitted .before .before .args in
     let d = c .before .before .before .before .schedule .ensures in
     let e =
     ap
     (λ r. scheduleOf (r .outcome) (r .case) (a .work .now) (a .outputs .now))
-    (c .before .before .before .before .before .before .before .admit .ensures)
+    (admitted .admit .ensures)
     ∙ schedule-admitted (a .case) (a .work .now) (a .outputs .now) in (
       c .plan-out .ensures ∙ ap planOut (d .0 ∙ ap (λ s. s .answer) e),
       (d .1 .0 ∙ ap (λ s. s .work) e, d .1 .1 ∙ ap (λ s. s .outputs) e),

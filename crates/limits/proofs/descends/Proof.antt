@@ -27,7 +27,9 @@ array-copy-out-last : tie.Need-array-copy-out-last
 array-copy-out-last c = let n = counted (c .before .before .before) in omega arith
 
 strict-requires : tie.Need-strict-requires
-strict-requires c κs = let n = counted (c .before .before .before .before .before .before) in omega arith
+strict-requires c κs =
+    let s = c .before .before .before .before .before .before in
+    let n = counted s in omega arith
 
 returns : tie.Need-returns
 unfolding descends

@@ -37,7 +37,9 @@ refusal7-requires : tie.Need-refusal7-requires
 refusal7-requires c κs = tt
 
 refusal8-requires : tie.Need-refusal8-requires
-refusal8-requires c κs = off2 (c .before .before .before .before .before)
+refusal8-requires c κs =
+    let s = c .before .before .before .before .before in
+    off2 s
 
 first-of-requires : tie.Need-first-of-requires
 first-of-requires c κs = tt

@@ -30,7 +30,8 @@ same-length c = search needs
 
 returns : tie.Need-returns
 returns c =
-    rw (negative (c .before .before .before .before .before)) (c .before .before .put .ensures)
+    let s = c .before .before .before .before .before in
+    rw (negative s) (c .before .before .put .ensures)
 
 returns-2 : tie.Need-returns-2
 returns-2 c =

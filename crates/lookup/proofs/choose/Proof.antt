@@ -29,9 +29,13 @@ start c = c .before .before .before .before .before .before .before
 abbrev day : tie.After-end-of → ℕ → Terms
 day c = dayOf (start c .args .margins .now) (start c .args .orders .now) (start c .args .charges)
 
+-- the hour after hour k, as it was made
+abbrev moved : tie.After-end-of → tie.After-next
+moved c = c .before .before .before .before .before
+
 module _ (c : tie.After-end-of) where
-  after : c .before .before .before .before .before .next .result .0 ≡ suc (start c .args .k .0)
-  after = c .before .before .before .before .before .next .ensures ∙ add-one (start c .args .k .0)
+  after : moved c .next .result .0 ≡ suc (start c .args .k .0)
+  after = moved c .next .ensures ∙ add-one (start c .args .k .0)
 
   -- the entry after the hour
   entered : c .before .before .value-at .result .0
@@ -52,10 +56,9 @@ module _ (c : tie.After-end-of) where
       ∙ ap pickOf (sym (choice-chosen (a .u) (day c) (a .k .0) (a .s)))
 
   -- the kept row after the hour
-  row : c .before .before .before .before .before .next .result .0 < c .end-of .result .0
+  row : moved c .next .result .0 < c .end-of .result .0
       → RowAt (start c .args .u) (worth (start c .args .u) (day c) (suc (start c .args .k .0)))
-      (lockOf (start c .args .s) - 1) ((c .end-of .result .0
-      - c .before .before .before .before .before .next .result .0 - 1) * rowLength)
+      (lockOf (start c .args .s) - 1) ((c .end-of .result .0 - moved c .next .result .0 - 1) * rowLength)
       (start c .args .kept .now)
   row h =
       let s = start c in
@@ -154,7 +157,7 @@ cast-slot c =
     let s = start v in
     omega (
       arith,
-      div-le-self (v .before .before .before .before .before .next .result .0) (s .args .l .0),
+      div-le-self (moved v .next .result .0) (s .args .l .0),
       after v,
       s .pre .1 .1 .0 .0,
       s .pre .0 .hours-le,

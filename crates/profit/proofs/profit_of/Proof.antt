@@ -115,7 +115,8 @@ loop-again c =
 returns : tie.Need-returns Inv-loop μ-loop
 returns c =
     let h = c .before .loop .inv in
-    let limits = limits (c .before .before .before .before .before) in
+    let s = c .before .before .before .before .before in
+    let limits = limits s in
     record { is = earned-end h (search needs); most = omega (arith, h .most, h .part, limits .hours-le) }
 
 pub profit-of-spec : {M : Type 1} → statement M

@@ -130,8 +130,9 @@ same-length-4 c = search needs
 
 returns-2 : tie.Need-returns-2
 returns-2 c =
-    let told = c .before .before in (
-      rw (refused (told .before .before .before .before .before .before) (told .before .number .given .1))
+    let told = c .before .before in
+    let s = told .before .before .before .before .before .before in (
+      rw (refused s (told .before .number .given .1))
           (c .put-refused .ensures),
       omega (arith, c .put-refused .ensures .place, refused-length told),
     )

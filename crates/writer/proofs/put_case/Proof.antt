@@ -28,11 +28,14 @@ add-falls : tie.Need-add-falls
 add-falls c = omega (arith, limits (c .before .before .before .before) .rises-le)
 
 mul-hours : tie.Need-mul-hours
-mul-hours c = omega (arith, limits (c .before .before .before .before .before) .falls-le)
+mul-hours c =
+    let s = c .before .before .before .before .before in
+    omega (arith, limits s .falls-le)
 
 add-hours : tie.Need-add-hours
 add-hours c =
-    let l = limits (c .before .before .before .before .before) in
+    let s = c .before .before .before .before .before in
+    let l = limits s in
     omega (arith, l .rises-le, l .falls-le)
 
 put-pairs-requires : tie.Need-put-pairs-requires

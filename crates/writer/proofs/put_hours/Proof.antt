@@ -41,10 +41,14 @@ mul-put-hour-2 : tie.Need-mul-put-hour-2 Inv-loop μ-loop
 mul-put-hour-2 c = omega arith
 
 array-read-put-hour : tie.Need-array-read-put-hour Inv-loop μ-loop
-array-read-put-hour c = omega (arith, limits (c .before .before .before .before .before .before) .hours-le)
+array-read-put-hour c =
+    let s = c .before .before .before .before .before .before in
+    omega (arith, limits s .hours-le)
 
 array-read-put-hour-2 : tie.Need-array-read-put-hour-2 Inv-loop μ-loop
-array-read-put-hour-2 c = omega (arith, limits (c .before .before .before .before .before .before) .hours-le)
+array-read-put-hour-2 c =
+    let s = c .before .before .before .before .before .before in
+    omega (arith, limits s .hours-le)
 
 put-hour-requires : tie.Need-put-hour-requires Inv-loop μ-loop
 put-hour-requires c κs = omega arith

@@ -12,13 +12,19 @@ first-outputs-requires : tie.Need-first-outputs-requires
 first-outputs-requires c κs = limits (c .before .before .before .before) .rises-le
 
 first-outputs-requires-2 : tie.Need-first-outputs-requires-2
-first-outputs-requires-2 c κs = limits (c .before .before .before .before .before) .falls-le
+first-outputs-requires-2 c κs =
+    let s = c .before .before .before .before .before in
+    limits s .falls-le
 
 first-prices-requires : tie.Need-first-prices-requires
-first-prices-requires c κs = limits (c .before .before .before .before .before .before) .hours-le
+first-prices-requires c κs =
+    let s = c .before .before .before .before .before .before in
+    limits s .hours-le
 
 first-orders-requires : tie.Need-first-orders-requires
-first-orders-requires c κs = limits (c .before .before .before .before .before .before .before) .hours-le
+first-orders-requires c κs =
+    let s = c .before .before .before .before .before .before .before in
+    limits s .hours-le
 
 returns : tie.Need-returns
 unfolding zeroed

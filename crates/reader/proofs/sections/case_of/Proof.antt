@@ -28,21 +28,26 @@ read-trajectory-requires-2 c κs =
     rw (c .section2 .ensures) (omega arith)
 
 section-requires-3 : tie.Need-section-requires-3
-section-requires-3 c κs = let p = whole (c .before .before .before .before .before) in ((omega arith, p .long), p .end3)
+section-requires-3 c κs =
+    let s = c .before .before .before .before .before in
+    let p = whole s in ((omega arith, p .long), p .end3)
 
 read-day-requires : tie.Need-read-day-requires
 read-day-requires c κs =
-    let p = whole (c .before .before .before .before .before .before) in
+    let s = c .before .before .before .before .before .before in
+    let p = whole s in
     rw (c .section3 .ensures) (omega arith)
 
 section-requires-4 : tie.Need-section-requires-4
 section-requires-4 c κs =
-    let p = whole (c .before .before .before .before .before .before .before) in
+    let s = c .before .before .before .before .before .before .before in
+    let p = whole s in
     ((omega arith, p .long), p .end0)
 
 read-unit-requires : tie.Need-read-unit-requires
 read-unit-requires c κs =
-    let p = whole (c .before .before .before .before .before .before .before .before) in
+    let s = c .before .before .before .before .before .before .before .before in
+    let p = whole s in
     rw (c .section4 .ensures) (p .unit)
 
 returns : tie.Need-returns

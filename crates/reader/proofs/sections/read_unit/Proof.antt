@@ -45,10 +45,11 @@ returns : tie.Need-returns
 unfolding assembled
 returns c =
     let m = c .before .before .before .before .before in
-    let s = m .before .before .before .before .before .before .before .before .before .before .before .before in
+    let f = m .before .before .before .before .before in
+    let s = f .before .before .before .before .before .before .before in
     λ i. record {
-      capacity = record { 0 = m .before .before .before .before .before .before .word .ensures i };
-      minimum = record { 0 = m .before .before .before .before .before .word2 .ensures i };
+      capacity = record { 0 = f .before .word .ensures i };
+      minimum = record { 0 = f .word2 .ensures i };
       rampup = record { 0 = m .before .before .before .before .word3 .ensures i };
       rampdown = record { 0 = m .before .before .before .word4 .ensures i };
       minup = record { 0 = m .before .before .word5 .ensures i };
