@@ -29,8 +29,8 @@ mostLine = mostEarned + mostMargin * mostOutput
 abbrev pub mostOffer : ℕ
 mostOffer = mostLine + mostWorth
 
--- the size of the number that stands for no amount; amounts are smaller than the second, and no amount with a line
--- added to it is not
+-- the size of the number that stands for no amount; and a size between the two: whatever a line adds, an amount stays
+-- smaller, and that number larger
 abbrev pub missingSize : ℕ
 missingSize = 2 ^ 62
 
