@@ -205,3 +205,11 @@ pub enum Plan {
     Found(HalfMills),
     Refused(u8),
 }
+
+// The answer of `compare`: which of two lists to offer, with what it earns, or neither, or the number of a refusal.
+pub enum Comparison {
+    First(HalfMills),
+    Second(HalfMills),
+    Neither,
+    Refused(u8),
+}
