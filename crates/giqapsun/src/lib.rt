@@ -1,6 +1,7 @@
 // The C boundary (include/giqapsun.h): each call takes and gives structs by value, with no logic of its own. The
 // answers' numbers and values are those of model's specs/Answers; specs/Boundary lays them out.
 use model::Case;
+use model::Comparison;
 use model::HalfMills;
 use model::Outcome;
 use model::Plan;
@@ -10,7 +11,8 @@ use model::Written;
 ghost use mathlib.Core.Path.{_≡_};
 ghost use Rattle.model.specs.declared.Outcome.the-variants.{Accepted};
 ghost use Rattle.model.specs.Answers.{readOf, writeOf, checkOf, scheduleOf};
-ghost use Rattle.giqapsun.specs.Boundary.{readingOut, writtenOut, verdictOut, planOut};
+ghost use Rattle.model.specs.Compared.{comparedOf};
+ghost use Rattle.giqapsun.specs.Boundary.{readingOut, writtenOut, verdictOut, planOut, choiceOut};
 
 // The number of a refusal, or 0, and the record: zeros beside a refusal.
 #[repr(C)]
@@ -39,6 +41,14 @@ pub struct GiqapsunVerdict {
 #[repr(C)]
 pub struct GiqapsunPlan {
     pub number: u32,
+    pub profit: HalfMills,
+}
+
+// The number of a refusal, or 0; which list to offer, 1 or 2, or 0; and what it earns.
+#[repr(C)]
+pub struct GiqapsunChoice {
+    pub number: u32,
+    pub which: u32,
     pub profit: HalfMills,
 }
 
@@ -102,6 +112,33 @@ fn plan_out(plan: Plan) -> GiqapsunPlan
     }
 }
 
+fn choice_out(comparison: Comparison) -> GiqapsunChoice
+    ensures { λ r. ⌜ r ≡ choiceOut comparison ⌝ }
+{
+    match comparison {
+        Comparison::First(profit) => GiqapsunChoice {
+            number: 0,
+            which: 1,
+            profit,
+        },
+        Comparison::Second(profit) => GiqapsunChoice {
+            number: 0,
+            which: 2,
+            profit,
+        },
+        Comparison::Neither => GiqapsunChoice {
+            number: 0,
+            which: 0,
+            profit: HalfMills(0),
+        },
+        Comparison::Refused(number) => GiqapsunChoice {
+            number: number as u32,
+            which: 0,
+            profit: HalfMills(0),
+        },
+    }
+}
+
 // Reads a case file.
 #[no_mangle]
 pub extern "C" fn giqapsun_read_1(file: &[u8]) -> GiqapsunReading
@@ -126,6 +163,14 @@ pub extern "C" fn giqapsun_check_1(case: Case, list: &[u16]) -> GiqapsunVerdict
     ensures { λ r. ⌜ r ≡ verdictOut (checkOf Accepted case (now (list .entry))) ⌝ }
 {
     verdict_out(rules::check(codec::admit(case), list))
+}
+
+// Which of two lists to offer with a record.
+#[no_mangle]
+pub extern "C" fn giqapsun_better_1(case: Case, first: &[u16], second: &[u16]) -> GiqapsunChoice
+    ensures { λ r. ⌜ r ≡ choiceOut (comparedOf Accepted case (now (first .entry)) (now (second .entry))) ⌝ }
+{
+    choice_out(offers::compare(codec::admit(case), first, second))
 }
 
 // The best list of a record, in the first outputs; the first working numbers are zeroed. Nothing is changed on 2 to 8
