@@ -1,9 +1,10 @@
-// The days whose answers are known from outside: the twelve of the scope on its small unit, and those of the source,
-// whose case is read from standard input. Prints one line for each: what was asked, and the answer of best::schedule
-// or rules::check.
+// The days whose answers are known from outside: the twelve of the scope on its small unit, pairs of lists on that unit,
+// and the days of the source, whose case is read from standard input. Prints one line for each: what was asked, and the
+// answer of best::schedule, of rules::check, or of offers::compare with the part that offers::better hands back.
 use libc::STDIN_FILENO;
 use libc::STDOUT_FILENO;
 use model::Case;
+use model::Comparison;
 use model::FRONT_BYTES;
 use model::HOUR_BYTES;
 use model::HOURS;
@@ -89,6 +90,31 @@ fn print_check(name: &[u8], reading: Reading, list: &[u16]) {
     io::write_all(STDOUT_FILENO, b"\n");
 }
 
+// Which of two lists to offer, and the part that is handed back.
+fn print_better<'a>(name: &[u8], reading: Reading, first: &'a [u16], second: &'a [u16]) {
+    io::write_all(STDOUT_FILENO, name);
+    match offers::compare(reading, first, second) {
+        Comparison::First(profit) => {
+            io::write_all(STDOUT_FILENO, b": first,");
+            print_profit(profit);
+        }
+        Comparison::Second(profit) => {
+            io::write_all(STDOUT_FILENO, b": second,");
+            print_profit(profit);
+        }
+        Comparison::Neither => {
+            io::write_all(STDOUT_FILENO, b": neither");
+        }
+        Comparison::Refused(number) => {
+            print_number(b": refused ", number as u64);
+        }
+    }
+    let part = offers::better(reading, first, second);
+    io::write_all(STDOUT_FILENO, b" list");
+    print_list(part, part.len());
+    io::write_all(STDOUT_FILENO, b"\n");
+}
+
 // A day of the scope's small unit: p(0), h, minimum down time, T, the price of every hour, the orders.
 fn small(
     initial: Output,
@@ -164,6 +190,31 @@ fn print_ordered() {
     print_best(b"12", small(Output(0), Hour(2), Hour(1), 4, 10, orders));
 }
 
+// An hour of the unit at 2 MW, at this price.
+fn hour(price: u16) -> Reading {
+    small(Output(2), Hour(2), Hour(1), 1, price, [0u8; HOURS])
+}
+
+// One list passes; both do, and the higher profit, or the lower output, wins; identical lists; neither passes.
+fn print_pairs() {
+    print_better(b"one passes", hour(10), &[2u16], &[4u16]);
+    print_better(b"the other passes", hour(12), &[4u16], &[3u16]);
+    print_better(b"3 earns more", hour(12), &[3u16], &[2u16]);
+    print_better(b"3 earns more", hour(12), &[2u16], &[3u16]);
+    print_better(b"equal profit", hour(10), &[2u16], &[3u16]);
+    print_better(b"equal profit", hour(10), &[3u16], &[2u16]);
+    print_better(b"identical", hour(10), &[2u16], &[2u16]);
+    print_better(b"neither passes", hour(10), &[4u16], &[1u16]);
+}
+
+// A first and a second list of another length; and a case that is refused, which comes before 9.
+fn print_refused_pairs() {
+    let case = small(Output(1), Hour(2), Hour(1), 1, 10, [0u8; HOURS]);
+    print_better(b"first of 2 outputs", hour(10), &[2u16, 2], &[2u16]);
+    print_better(b"second of 2 outputs", hour(10), &[2u16], &[2u16, 2]);
+    print_better(b"refused case", case, &[2u16, 2], &[2u16]);
+}
+
 // The prices of two days that are alike.
 fn twice(prices: [u16; HOURS]) -> [u16; HOURS] {
     let mut both = prices;
@@ -224,6 +275,8 @@ fn print_lists(file: &[u8]) {
 fn main() {
     print_free();
     print_ordered();
+    print_pairs();
+    print_refused_pairs();
     let mut file = [0u8; SOURCE + 1];
     let n = io::read_full(STDIN_FILENO, &mut file);
     print_source(&file[..n]);
