@@ -1,5 +1,5 @@
-"""The Python module: known days, the source's day, refusals, numbers that fit no record, the library that it loads,
-and the module as it is installed."""
+"""The Python module: known days, the source's day, the better of two lists, refusals, numbers that fit no record, the
+library that it loads, and the module as it is installed."""
 
 import doctest
 import os
@@ -10,12 +10,15 @@ import sys
 import tempfile
 import typing
 import unittest
+from array import array
 from contextlib import chdir
 from dataclasses import asdict, fields, replace
+from itertools import product
 from pathlib import Path
 
 import giqapsun
-from giqapsun import Breaks, Case, Passes, Plan, Refusal, best, check, read, write
+from giqapsun import Breaks, Case, First, Neither, Passes, Plan, Refusal, Second
+from giqapsun import best, better, check, compare, read, write
 
 ROOT = Path(__file__).resolve().parents[2]
 CASE_7 = (ROOT / "cases/case7.case").read_bytes()
@@ -90,6 +93,95 @@ class Days(unittest.TestCase):
         self.assertGreater(tried, 5)
 
 
+class Listed(list):
+    """A list of another kind."""
+
+
+class Pairs(unittest.TestCase):
+    """The better of two lists."""
+
+    # over three hours from 3 MW, at a price of 5: the best list, two that pass, and two that break a rule and would
+    # lose less
+    BEST, LOW, HIGH = [2, 1, 0], [2, 2, 2], [3, 3, 3]
+    BROKEN, OTHER_BROKEN = [0, 0, 0], [2, 0, 0]
+
+    def given(self, case, first, second, answer):
+        """The answer, and the very object that it stands for, which stays as it was; so does the case."""
+        kept = [asdict(case), list(first), list(second)]
+        self.assertEqual(compare(case, first, second), answer)
+        self.assertIs(better(case, first, second), first if isinstance(answer, First) else second)
+        self.assertEqual([asdict(case), list(first), list(second)], kept)
+
+    def test_one_passes(self):
+        case = read(CASE_7)
+        for passing in (self.BEST, self.HIGH):
+            profit = check(case, passing).profit
+            for broken in (self.BROKEN, self.OTHER_BROKEN):
+                self.assertIsInstance(check(case, broken), Breaks)
+                self.given(case, passing, broken, First(profit))
+                self.given(case, broken, passing, Second(profit))
+
+    def test_higher_profit(self):
+        case = read(CASE_7)
+        self.given(case, self.BEST, self.LOW, First(-53))
+        self.given(case, self.LOW, self.BEST, Second(-53))
+        self.given(case, self.HIGH, self.LOW, Second(-71))
+        # the higher list earns more at a price above F
+        case.prices = [11] * 3
+        self.given(case, self.LOW, self.HIGH, Second(12))
+        self.given(case, self.HIGH, self.LOW, First(12))
+
+    def test_equal_profits(self):
+        """At a price of F a list earns what its hours on-line cost; the first hour that differs decides."""
+        case = replace(read(CASE_7), prices=[10] * 3)
+        for lower, higher in (([2, 2, 2], [3, 3, 3]), ([2, 3, 3], [3, 2, 2]), ([3, 3, 2], [3, 3, 3])):
+            self.given(case, lower, higher, First(-6))
+            self.given(case, higher, lower, Second(-6))
+
+    def test_identical(self):
+        case = read(CASE_7)
+        for passing in (self.BEST, self.LOW, self.HIGH):
+            first, second = list(passing), list(passing)
+            self.given(case, first, second, First(check(case, passing).profit))
+            self.given(case, first, first, First(check(case, passing).profit))
+
+    def test_neither(self):
+        """An empty part of the first, of its own kind."""
+        case = read(CASE_7)
+        for kind in (list, tuple, Listed, lambda entries: array("H", entries)):
+            first, second = kind(self.BROKEN), kind(self.OTHER_BROKEN)
+            for one, other in ((first, second), (second, first), (first, first), (first, [0, 0, 0])):
+                self.assertEqual(compare(case, one, other), Neither())
+                part = better(case, one, other)
+                self.assertEqual((type(part), part), (type(one[:0]), one[:0]))
+                self.assertEqual(len(part), 0)
+        self.assertEqual(better(case, range(3), self.BROKEN), range(0))
+
+    def test_kinds(self):
+        """A list of any kind comes back itself, beside one of another kind too."""
+        case = read(CASE_7)
+        kinds = (list, tuple, Listed, lambda entries: array("H", entries), lambda entries: list(map(Index, entries)))
+        for kind in kinds:
+            for other in kinds:
+                first, second = kind(self.BEST), other(self.LOW)
+                self.assertIs(better(case, first, second), first)
+                self.assertIs(better(case, second, first), first)
+        self.assertIs(type(better(case, Listed(self.BEST), self.LOW)), Listed)
+        self.given(read(SOURCE), tuple(SOURCE_LIST), array("H", [120] * 24), First(33_546_962))
+
+    def test_best_is_not_beaten(self):
+        """The best list of each known day against every list of its length."""
+        for name, case, _, answer in known_days():
+            if answer[0] != "list":
+                continue
+            with self.subTest(case=name):
+                plan = best(case)
+                for other in product(range(case.capacity + 1), repeat=len(case.prices)):
+                    same = list(other) == plan.outputs
+                    self.given(case, other, plan.outputs, (First if same else Second)(plan.profit))
+                    self.given(case, plan.outputs, other, First(plan.profit))
+
+
 class Refusals(unittest.TestCase):
     """Refused calls."""
 
@@ -124,10 +216,22 @@ class Refusals(unittest.TestCase):
                 self.refused(number, write, changed)
                 self.refused(number, check, changed, [2, 1, 0])
                 self.refused(number, best, changed)
+                for call in (compare, better):
+                    self.refused(number, call, changed, [2, 1, 0], [2, 2, 2])
+                    self.refused(number, call, changed, [2, 1], [])
 
     def test_of_a_list(self):
         for outputs in ([], [2, 1], [2, 1, 0, 0]):
             self.refused(9, check, read(CASE_7), outputs)
+
+    def test_of_two_lists(self):
+        """Either length, whatever the other list is."""
+        case = read(CASE_7)
+        for call in (compare, better):
+            for wrong in ([], [2, 1], [2, 1, 0, 0]):
+                for other in ([2, 1, 0], [0, 0, 0], [], [2, 2]):
+                    self.refused(9, call, case, wrong, other)
+                    self.refused(9, call, case, other, wrong)
 
     def test_text(self):
         self.assertEqual(str(Refusal(8)), "refused 8: an order byte above 2")
@@ -166,6 +270,25 @@ class Widths(unittest.TestCase):
         self.assertIsInstance(check(case, [65_535, 1, 0]), Breaks)
         for output in (65_536, -1, 1.0, "1"):
             self.assertRaises(ValueError, check, case, [output, 1, 0])
+
+    def test_of_two_lists(self):
+        """The fault names the list, and what is no list that can be handed back is a fault too."""
+        case = read(CASE_7)
+        self.assertEqual(compare(case, [65_535, 1, 0], [2, 1, 0]), Second(-53))
+        for output in (65_536, -1, 1.0, "1", True, None):
+            whole = f"{output!r} is not a whole number from 0 to 65535"
+            self.faults(case, [2, 1, output], whole)
+        for wrong in (None, 5, 2.5, {2: 1}, {2, 1, 0}, map(int, "210"), (output for output in (2, 1, 0))):
+            self.faults(case, wrong, f"{wrong!r} is not a list of whole numbers")
+
+    def faults(self, case, wrong, text):
+        """The wrong list is named in either place, the first where both are wrong."""
+        right = [2, 1, 0]
+        for call in (compare, better):
+            for pair, name in (((wrong, right), "first"), ((right, wrong), "second"), ((wrong, wrong), "first")):
+                with self.assertRaises(ValueError) as caught:
+                    call(case, *pair)
+                self.assertEqual(str(caught.exception), f"{name}: {text}")
 
 
 class Index:
@@ -209,7 +332,7 @@ class Kinds(unittest.TestCase):
                 setattr(case, name, 1)
         with self.assertRaises(TypeError):
             Case(ramp_up=1)
-        for answer in (Passes(1), Breaks(1, 2), best(case)):
+        for answer in (Passes(1), Breaks(1, 2), best(case), First(1), Second(1), Neither()):
             with self.assertRaises((AttributeError, TypeError)):
                 answer.other = 1
             self.assertEqual(pickle.loads(pickle.dumps(answer)), answer)
@@ -217,10 +340,10 @@ class Kinds(unittest.TestCase):
 
     def test_types(self):
         self.assertTrue((Path(giqapsun.__file__).parent / "py.typed").exists())
-        for call in (read, write, check, best, giqapsun.library_file):
+        for call in (read, write, check, best, compare, better, giqapsun.library_file):
             hints = typing.get_type_hints(call)
             self.assertEqual(len(hints), call.__code__.co_argcount + 1)
-        for kind in (Case, Passes, Breaks, Plan):
+        for kind in (Case, Passes, Breaks, Plan, First, Second, Neither):
             self.assertEqual(set(typing.get_type_hints(kind)), {field.name for field in fields(kind)})
 
     def test_names_are_those_of_the_header(self):
@@ -261,13 +384,18 @@ class Library(unittest.TestCase):
         return self.run_python(text, PYTHONPATH=str(ROOT / "bindings/python"), **environment)[1]
 
     def test_complaints(self):
-        (self.folder / "stub.c").write_text("int giqapsun_read(void) { return 0; }\n")
-        subprocess.run(["gcc", "-shared", "stub.c", "-o", "stub.so"], cwd=self.folder, check=True)
-        self.assertEqual(
-            self.complaint(GIQAPSUN_LIBRARY="stub.so"),
-            "giqapsun.LibraryError: stub.so has no giqapsun_read_1: "
-            "it is no library of layout 1; bindings/build.sh builds one",
-        )
+        calls = ("read", "write", "check", "best")
+        for functions, lacks, reason in (
+            (["giqapsun_read"], "giqapsun_read_1", "it is no library of layout 1"),
+            ([f"giqapsun_{call}_1" for call in calls], "giqapsun_better_1", "it is of an earlier version"),
+        ):
+            text = "".join(f"int {function}(void) {{ return 0; }}\n" for function in functions)
+            (self.folder / "stub.c").write_text(text)
+            subprocess.run(["gcc", "-shared", "stub.c", "-o", "stub.so"], cwd=self.folder, check=True)
+            self.assertEqual(
+                self.complaint(GIQAPSUN_LIBRARY="stub.so"),
+                f"giqapsun.LibraryError: stub.so has no {lacks}: {reason}; bindings/build.sh builds one",
+            )
         self.assertEqual(
             self.complaint(GIQAPSUN_LIBRARY="none.so"),
             "giqapsun.LibraryError: the library none.so cannot be loaded: no such file",

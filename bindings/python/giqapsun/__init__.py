@@ -1,5 +1,5 @@
 """The day of one thermal power unit: case files are read and written, a list of hourly outputs is checked
-against the rules of the day, and the list that earns most is found.
+against the rules of the day, the list that earns most is found, and the better of two lists is told.
 
 Outputs are whole megawatts, prices and costs mills (thousandths of a dollar), profits half-mills (2,000 to
 the dollar, exact). Hours are counted from 1; hour 0 is the one before the day.
@@ -23,9 +23,9 @@ if sys.version_info < (3, 11):
 
 import ctypes
 import operator
-from collections.abc import Iterable
+from collections.abc import Iterable, Sequence
 from dataclasses import dataclass, field, fields
-from typing import SupportsIndex
+from typing import SupportsIndex, TypeVar
 
 from ._boundary import FILE_MOST, HOURS, STAGES, WORK, LibraryError, calls, library_file
 from ._boundary import Case as _Case
@@ -34,7 +34,8 @@ from ._texts import REFUSALS, RULES
 __version__ = "1.0.0"
 
 __all__ = [
-    "Case", "Passes", "Breaks", "Plan", "Refusal", "LibraryError", "read", "write", "check", "best", "library_file",
+    "Case", "Passes", "Breaks", "Plan", "First", "Second", "Neither", "Refusal", "LibraryError",
+    "read", "write", "check", "best", "compare", "better", "library_file",
     "FREE", "ON", "OFF", "STAGES", "HOURS", "REFUSALS", "RULES",
 ]
 
@@ -104,6 +105,30 @@ class Plan:
     profit: int
 
 
+@dataclass(frozen=True, slots=True)
+class First:
+    """The first of two lists is the better, and what it earns in half-mills."""
+
+    profit: int
+
+
+@dataclass(frozen=True, slots=True)
+class Second:
+    """The second of two lists is the better, and what it earns in half-mills."""
+
+    profit: int
+
+
+@dataclass(frozen=True, slots=True)
+class Neither:
+    """Neither of two lists passes."""
+
+
+# the kinds of two lists, which may be different ones
+_One = TypeVar("_One", bound=Sequence[SupportsIndex])
+_Other = TypeVar("_Other", bound=Sequence[SupportsIndex])
+
+
 def read(file: bytes | bytearray | memoryview) -> Case:
     """The case in the bytes of a file; refusals 1 to 8."""
     file = bytes(memoryview(file))
@@ -126,7 +151,7 @@ def write(case: Case) -> bytes:
 
 def check(case: Case, outputs: Iterable[SupportsIndex]) -> Passes | Breaks:
     """Passes or Breaks, for a list of outputs; refusals 2 to 9."""
-    listed = _entries("outputs", outputs, 2**16 - 1)
+    listed = _entries("outputs", outputs, _OUTPUT_MOST)
     verdict = calls().check(_record(case), _lent(ctypes.c_uint16, listed), len(listed))
     _test(verdict.number)
     return Breaks(verdict.hour, verdict.rule) if verdict.rule else Passes(verdict.profit)
@@ -143,9 +168,38 @@ def best(case: Case) -> Plan:
     return Plan(outputs[: len(case.prices)], plan.profit)
 
 
+def compare(
+    case: Case, first: Sequence[SupportsIndex], second: Sequence[SupportsIndex]
+) -> First | Second | Neither:
+    """First, Second or Neither, for two lists of outputs; refusals 2 to 9.
+
+    A list that passes beats one that does not; then the higher profit wins; then the lower output at the first
+    hour where they differ. Identical lists give First.
+    """
+    ones, others = _outputs("first", first), _outputs("second", second)
+    lent = _lent(ctypes.c_uint16, ones), len(ones), _lent(ctypes.c_uint16, others), len(others)
+    choice = calls().better(_record(case), *lent)
+    _test(choice.number)
+    if choice.which == 0:
+        return Neither()
+    return First(choice.profit) if choice.which == 1 else Second(choice.profit)
+
+
+def better(case: Case, first: _One, second: _Other) -> _One | _Other:
+    """The better of two lists by `compare`: the very object that was given, or first[:0] where neither passes;
+    refusals 2 to 9."""
+    match compare(case, first, second):
+        case First():
+            return first
+        case Second():
+            return second
+    return first[:0]
+
+
 _LISTS = ("rise", "fall", "prices", "orders")
 _NUMBERS = tuple(f.name for f in fields(Case) if f.name not in _LISTS)
 _KINDS = dict(_Case._fields_)
+_OUTPUT_MOST = 2**16 - 1
 
 
 def _record(case):
@@ -177,6 +231,15 @@ def _entries(name, values, most):
     except TypeError:
         raise ValueError(f"{name}: {values!r} is not a list of whole numbers") from None
     return [_number(name, value, most) for value in listed]
+
+
+def _outputs(name, values):
+    """The outputs of a list that has parts and can be handed back as it was."""
+    try:
+        values[:0]
+    except (TypeError, LookupError):
+        raise ValueError(f"{name}: {values!r} is not a list of whole numbers") from None
+    return _entries(name, values, _OUTPUT_MOST)
 
 
 def _number(name, value, most):

@@ -75,16 +75,24 @@ class Plan(ctypes.Structure):
     _fields_ = [("number", ctypes.c_uint32), ("profit", ctypes.c_int64)]
 
 
+class Choice(ctypes.Structure):
+    """Number 0, which list is the better (1 or 2) and what it earns; number 0 and which 0; or a refusal."""
+
+    _fields_ = [("number", ctypes.c_uint32), ("which", ctypes.c_uint32), ("profit", ctypes.c_int64)]
+
+
 _BYTES = ctypes.POINTER(ctypes.c_uint8)
 _OUTPUTS = ctypes.POINTER(ctypes.c_uint16)
 _NUMBERS = ctypes.POINTER(ctypes.c_int64)
 
-# the calls by their names without the layout's number: what each answers and takes
+# the calls by their names without the layout's number: what each answers and takes; one that a later version adds
+# stands last
 _CALLS = {
     "read": (Reading, [_BYTES, ctypes.c_size_t]),
     "write": (Written, [Case, _BYTES, ctypes.c_size_t]),
     "check": (Verdict, [Case, _OUTPUTS, ctypes.c_size_t]),
     "best": (Plan, [Case, _NUMBERS, ctypes.c_size_t, _OUTPUTS, ctypes.c_size_t]),
+    "better": (Choice, [Case, _OUTPUTS, ctypes.c_size_t, _OUTPUTS, ctypes.c_size_t]),
 }
 
 
@@ -102,7 +110,7 @@ def library_file() -> Path | None:
 
 
 def calls():
-    """The four calls of the library, each under its name without the layout's number."""
+    """The calls of the library, each under its name without the layout's number."""
     file = library_file()
     if file is None:
         raise LibraryError("libgiqapsun.so is not built: run bindings/build.sh, or set GIQAPSUN_LIBRARY")
@@ -110,7 +118,7 @@ def calls():
 
 
 class _Calls:
-    """read, write, check and best."""
+    """read, write, check, best and better."""
 
     def __init__(self, file, library):
         for name, (answer, arguments) in _CALLS.items():
@@ -118,8 +126,8 @@ class _Calls:
             try:
                 call = getattr(library, symbol)
             except AttributeError:
-                what = f"it is no library of layout {LAYOUT}; bindings/build.sh builds one"
-                raise LibraryError(f"{file} has no {symbol}: {what}") from None
+                what = "it is of an earlier version" if vars(self) else f"it is no library of layout {LAYOUT}"
+                raise LibraryError(f"{file} has no {symbol}: {what}; bindings/build.sh builds one") from None
             call.restype, call.argtypes = answer, arguments
             setattr(self, name, call)
 
