@@ -36,7 +36,7 @@ fi
 [ -f "$GIQAPSUN_LIB_DIR/libgiqapsun.a" ] ||
     broken "no libgiqapsun.a in $GIQAPSUN_LIB_DIR, the folder that GIQAPSUN_LIB_DIR names"
 symbols=$(nm "$GIQAPSUN_LIB_DIR/libgiqapsun.a" 2>&1 || true)
-for call in read write check best; do
+for call in read write check best better; do
     grep -q " T giqapsun_${call}_1$" <<<"$symbols" ||
         broken "$GIQAPSUN_LIB_DIR/libgiqapsun.a has no function giqapsun_${call}_1"
 done

@@ -1,9 +1,9 @@
 /*
  * Giqapsun: the day of one thermal power unit.
  *
- * Four calls: read a case file, write a case file, check a list of hourly outputs, find the list that
- * earns most. Structs go by value; a slice is a pointer and then its length in elements, not bytes.
- * The calls allocate nothing and keep nothing from one call to the next.
+ * Five calls: read a case file, write a case file, check a list of hourly outputs, find the list that
+ * earns most, tell the better of two lists. Structs go by value; a slice is a pointer and then its length
+ * in elements, not bytes. The calls allocate nothing and keep nothing from one call to the next.
  *
  * Units
  *
@@ -14,7 +14,7 @@
  *
  * Refusals: the `number` of an answer. 0 is no refusal. The conditions are tested from the top, and the
  * first that applies is given. giqapsun_read tests 1 to 8, giqapsun_write 2 to 8 and 10, giqapsun_check
- * 2 to 9, giqapsun_best 2 to 8, 10 and 11.
+ * 2 to 9, giqapsun_best 2 to 8, 10 and 11, giqapsun_better 2 to 9.
  *
  *   1   file under 16 bytes, or pairs not as laid down
  *   2   a section length, or a count in a record, not as laid down
@@ -51,7 +51,8 @@
  * says what 11 says.
  *
  * Lent memory: every pointer is valid for its length, aligned for its type and not null, also where the
- * length is 0; lent slices do not overlap. Each call below says what it changes; nothing else is changed.
+ * length is 0; lent slices do not overlap, but the two lists of giqapsun_better, which are only read, may.
+ * Each call below says what it changes; nothing else is changed.
  *
  * Calling convention: that of C on x86-64 Linux (System V), in which a record by value is copied to the
  * stack. GIQAPSUN_STACK_READ and the like say how many bytes of stack a call takes, that record included.
@@ -105,6 +106,8 @@ extern "C" {
 /*
  * Number of the layout: it changes with every change of a struct below, and each function of the library
  * carries it in its name. A program that was compiled for one layout and a library of another do not link.
+ * A call that a version adds, and a struct with it, leaves the number: of two versions of one layout the
+ * later has every call of the earlier.
  */
 #define GIQAPSUN_LAYOUT 1
 
@@ -114,6 +117,7 @@ extern "C" {
 #define giqapsun_write GIQAPSUN_NAMED(giqapsun_write, GIQAPSUN_LAYOUT)
 #define giqapsun_check GIQAPSUN_NAMED(giqapsun_check, GIQAPSUN_LAYOUT)
 #define giqapsun_best GIQAPSUN_NAMED(giqapsun_best, GIQAPSUN_LAYOUT)
+#define giqapsun_better GIQAPSUN_NAMED(giqapsun_better, GIQAPSUN_LAYOUT)
 
 /* Entries that a record has room for: outputs of a trajectory, hours of a day. */
 #define GIQAPSUN_STAGES 8
@@ -127,6 +131,7 @@ extern "C" {
 #define GIQAPSUN_STACK_WRITE 2048
 #define GIQAPSUN_STACK_CHECK 4096
 #define GIQAPSUN_STACK_BEST 49152
+#define GIQAPSUN_STACK_BETTER 4096
 
 /* Bytes of the longest file: pairs and unit, two trajectories, hours. */
 #define GIQAPSUN_FILE_MOST (48 + 2 * GIQAPSUN_STAGES * 2 + 3 * GIQAPSUN_HOURS)
@@ -189,6 +194,16 @@ struct giqapsun_plan {
     int64_t profit;
 };
 
+/*
+ * Number 0, `which` 1 (the first list) or 2 (the second) and what that list earns; number 0, which 0 and
+ * profit 0: neither passes. Or a refusal, and which and profit 0. So `which` alone tells the list to take.
+ */
+struct giqapsun_choice {
+    uint32_t number;
+    uint32_t which;
+    int64_t profit;
+};
+
 /* Reads the n bytes of a case file. Changes no lent memory. */
 struct giqapsun_reading giqapsun_read(const uint8_t *file, size_t n);
 
@@ -209,6 +224,15 @@ struct giqapsun_verdict giqapsun_check(struct giqapsun_case c, const uint16_t *l
  */
 struct giqapsun_plan giqapsun_best(struct giqapsun_case c, int64_t *work, size_t n, uint16_t *outputs,
                                    size_t m);
+
+/*
+ * Checks a list of n outputs and one of m, and tells the better: a list that passes beats one that does not;
+ * then the higher profit wins; then the lower output at the first hour where they differ; identical lists
+ * give the first. 9 is given where either list is not of T outputs. Changes no lent memory, so the better
+ * list is there as it was lent; the two may overlap or be the same.
+ */
+struct giqapsun_choice giqapsun_better(struct giqapsun_case c, const uint16_t *first, size_t n,
+                                       const uint16_t *second, size_t m);
 
 #ifdef __cplusplus
 }

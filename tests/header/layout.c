@@ -79,5 +79,9 @@ int main(void)
     STRUCT(plan);
     FIELD(plan, number);
     FIELD(plan, profit);
+    STRUCT(choice);
+    FIELD(choice, number);
+    FIELD(choice, which);
+    FIELD(choice, profit);
     return 0;
 }

@@ -21,7 +21,7 @@ def main():
         print(name, getattr(boundary, name))
     for name in ("FREE", "ON", "OFF"):
         print(name, getattr(giqapsun, name))
-    for name in ("case", "reading", "written", "verdict", "plan"):
+    for name in ("case", "reading", "written", "verdict", "plan", "choice"):
         kind = getattr(boundary, name.capitalize())
         print(f"{name}: size {ctypes.sizeof(kind)}")
         for field, number in kind._fields_:

@@ -5,7 +5,7 @@
 #[path = "../../bindings/rust/src/boundary.rs"]
 mod boundary;
 
-use boundary::{Case, Plan, Reading, Verdict, Written};
+use boundary::{Case, Choice, Plan, Reading, Verdict, Written};
 use std::mem::{offset_of, size_of, size_of_val};
 
 /// The sign of a field, as layout.c prints it.
@@ -56,4 +56,5 @@ fn main() {
     layout!("written", Written, Written { number: 0, length: 0 }, number length);
     layout!("verdict", Verdict, Verdict { number: 0, hour: 0, rule: 0, profit: 0 }, number hour rule profit);
     layout!("plan", Plan, Plan { number: 0, profit: 0 }, number profit);
+    layout!("choice", Choice, Choice { number: 0, which: 0, profit: 0 }, number which profit);
 }

@@ -44,6 +44,12 @@ static void call_check(void)
     numbers |= giqapsun_check(largest, outputs, GIQAPSUN_HOURS).number;
 }
 
+/* The best list beside itself: both are checked, and compared to the last hour. */
+static void call_better(void)
+{
+    numbers |= giqapsun_better(largest, outputs, GIQAPSUN_HOURS, outputs, GIQAPSUN_HOURS).number;
+}
+
 /* The calls in an order in which each has what it needs. */
 static struct {
     const char *name;
@@ -54,6 +60,7 @@ static struct {
     {"read", call_read, GIQAPSUN_STACK_READ, 0},
     {"best", call_best, GIQAPSUN_STACK_BEST, 0},
     {"check", call_check, GIQAPSUN_STACK_CHECK, 0},
+    {"better", call_better, GIQAPSUN_STACK_BETTER, 0},
 };
 
 #define CALLS (sizeof calls / sizeof *calls)

@@ -142,7 +142,20 @@ pub struct Plan {
     pub profit: i64,
 }
 
-// Every pointer is valid for its length, aligned and not null; lent slices do not overlap.
+/// Number 0, which list is the better and what it earns; number 0 and which 0; or a refusal.
+#[repr(C)]
+#[derive(Clone, Copy, Debug, PartialEq, Eq)]
+pub struct Choice {
+    /// 0, or the number of the refusal.
+    pub number: u32,
+    /// 1 for the first list, 2 for the second; 0 where neither passes, and beside a refusal.
+    pub which: u32,
+    /// What that list earns, in half-mills; otherwise 0.
+    pub profit: i64,
+}
+
+// Every pointer is valid for its length, aligned and not null; lent slices do not overlap, but the two lists
+// of giqapsun_better may.
 extern "C" {
     /// Reads the `n` bytes of a file; changes no lent memory.
     #[link_name = "giqapsun_read_1"]
@@ -160,4 +173,8 @@ extern "C" {
     /// Fills the first T outputs on number 0; zeroes the first [`WORK`] numbers on 0 and 11.
     #[link_name = "giqapsun_best_1"]
     pub fn giqapsun_best(c: Case, work: *mut i64, n: usize, outputs: *mut u16, m: usize) -> Plan;
+
+    /// Tells the better of a list of `n` outputs and one of `m`; changes no lent memory.
+    #[link_name = "giqapsun_better_1"]
+    pub fn giqapsun_better(c: Case, first: *const u16, n: usize, second: *const u16, m: usize) -> Choice;
 }
