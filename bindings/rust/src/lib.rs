@@ -1,12 +1,12 @@
 //! The day of one thermal power unit: case files are read and written, a list of hourly outputs is checked
-//! against the rules of the day, and the list that earns most is found. The library behind it is proved;
-//! this crate lends it memory and turns its answers into Rust's.
+//! against the rules of the day, the list that earns most is found, and the better of two lists is told. The
+//! library behind it is proved; this crate lends it memory and turns its answers into Rust's.
 //!
 //! Outputs are whole megawatts, prices and costs mills (thousandths of a dollar), profits half-mills (2,000
 //! to the dollar, exact). Hours are counted from 1; hour 0 is the one before the day.
 //!
 //! ```
-//! use giqapsun::{best, check, read, write, Case, Verdict};
+//! use giqapsun::{best, better, check, read, write, Case, Verdict};
 //!
 //! // A small unit on-line at 3 MW, and three hours at a price below its cost.
 //! let mut case = Case {
@@ -37,6 +37,12 @@
 //! assert_eq!(check(&case, &plan.outputs)?, Verdict::Passes { profit: -53 });
 //! assert_eq!(check(&case, &[2, 2, 0])?, Verdict::Breaks { hour: 2, rule: 4 });
 //! assert_eq!(read(&write(&case)?)?, case);
+//!
+//! // Lists from two houses: the better one comes back, the very slice that was lent.
+//! let (first, second) = ([2, 2, 2], [2, 1, 0]);
+//! let offered = better(&case, &first, &second);
+//! assert_eq!(offered, [2, 1, 0]);
+//! assert!(std::ptr::eq(offered, &second[..]));
 //! # Ok::<(), giqapsun::Refusal>(())
 //! ```
 
@@ -77,6 +83,23 @@ pub struct Plan {
     pub outputs: Vec<u16>,
     /// What it earns, in half-mills.
     pub profit: i64,
+}
+
+/// Which of two lists of T outputs is the better.
+#[derive(Clone, Copy, Debug, PartialEq, Eq)]
+pub enum Comparison {
+    /// The first list is.
+    First {
+        /// What it earns, in half-mills.
+        profit: i64,
+    },
+    /// The second list is.
+    Second {
+        /// What it earns, in half-mills.
+        profit: i64,
+    },
+    /// Neither list passes.
+    Neither,
 }
 
 /// Reads a case file.
@@ -133,6 +156,50 @@ pub fn best(case: &Case) -> Result<Plan, Refusal> {
     };
     outputs.truncate(case.hours);
     accepted(plan.number, Plan { outputs, profit: plan.profit })
+}
+
+/// Tells which of two lists is the better: one that passes beats one that does not; then the higher profit
+/// wins; then the lower output at the first hour where they differ; identical lists give the first.
+///
+/// # Errors
+///
+/// Refusals 2 to 8 of the case, and 9 where either list is not of T outputs.
+pub fn compare(case: &Case, first: &[u16], second: &[u16]) -> Result<Comparison, Refusal> {
+    // SAFETY: pointers and lengths are those of two slices, which are only read.
+    let choice = unsafe {
+        boundary::giqapsun_better(*case, first.as_ptr(), first.len(), second.as_ptr(), second.len())
+    };
+    let answer = match choice.which {
+        0 => Comparison::Neither,
+        1 => Comparison::First { profit: choice.profit },
+        _ => Comparison::Second { profit: choice.profit },
+    };
+    accepted(choice.number, answer)
+}
+
+/// The better of two lists by [`compare`], as it was lent: the very slice. Where neither passes, and on every
+/// refusal, it is the empty part `&first[..0]`.
+///
+/// ```
+/// use giqapsun::{better, read};
+///
+/// let case = read(include_bytes!("../../../cases/case7.case"))?;
+/// // Two lists of three hours in one buffer; the second loses less.
+/// let buffer = [2, 2, 2, 2, 1, 0];
+/// let (first, second) = buffer.split_at(3);
+/// assert!(std::ptr::eq(better(&case, first, second), &buffer[3..]));
+/// // A list that breaks a rule twice, and one that is too short.
+/// let broken = [0, 0, 0];
+/// assert!(std::ptr::eq(better(&case, &broken, &broken), &broken[..0]));
+/// assert!(std::ptr::eq(better(&case, &buffer[..2], second), &buffer[..0]));
+/// # Ok::<(), giqapsun::Refusal>(())
+/// ```
+pub fn better<'a>(case: &Case, first: &'a [u16], second: &'a [u16]) -> &'a [u16] {
+    match compare(case, first, second) {
+        Ok(Comparison::First { .. }) => first,
+        Ok(Comparison::Second { .. }) => second,
+        Ok(Comparison::Neither) | Err(_) => &first[..0],
+    }
 }
 
 /// The answer beside number 0, or the refusal.

@@ -1,7 +1,7 @@
 //! Refusals 1 to 11, and what each call leaves in lent memory.
 
-use giqapsun::boundary::{giqapsun_best, giqapsun_read, giqapsun_write};
-use giqapsun::{best, check, read, write, Case, Refusal, FILE_MOST, HOURS, ON, WORK};
+use giqapsun::boundary::{giqapsun_best, giqapsun_better, giqapsun_read, giqapsun_write, Choice};
+use giqapsun::{best, better, check, compare, read, write, Case, Refusal, FILE_MOST, HOURS, ON, WORK};
 
 const CASE_7: &[u8] = include_bytes!("../../../cases/case7.case");
 
@@ -70,7 +70,23 @@ fn of_a_record() {
         assert_eq!(write(&case), Err(refusal));
         assert_eq!(check(&case, &[2, 1, 0]), Err(refusal));
         assert_eq!(best(&case), Err(refusal));
+        // lists that pass, and lists of wrong lengths: the case is tested first
+        for list in [&[2, 1, 0][..], &[2, 1], &[]] {
+            refused_pair(&case, list, &[2, 1, 0], refusal);
+            refused_pair(&case, &[2, 1, 0], list, refusal);
+        }
     }
+}
+
+/// The comparison of two lists is refused, with which and profit 0 and the empty part of the first list.
+fn refused_pair(case: &Case, first: &[u16], second: &[u16], refusal: Refusal) {
+    assert_eq!(compare(case, first, second), Err(refusal));
+    let part = better(case, first, second);
+    assert_eq!((part.as_ptr(), part.len()), (first.as_ptr(), 0));
+    // SAFETY: pointers and lengths of two slices.
+    let choice =
+        unsafe { giqapsun_better(*case, first.as_ptr(), first.len(), second.as_ptr(), second.len()) };
+    assert_eq!(choice, Choice { number: refusal.number(), which: 0, profit: 0 });
 }
 
 #[test]
@@ -79,6 +95,20 @@ fn of_a_list() {
     assert_eq!(check(&case, &[]), Err(Refusal::ListLength));
     assert_eq!(check(&case, &[2, 1]), Err(Refusal::ListLength));
     assert_eq!(check(&case, &[2, 1, 0, 0]), Err(Refusal::ListLength));
+}
+
+#[test]
+fn of_two_lists() {
+    let case = read(CASE_7).unwrap();
+    let lists = [&[2, 1, 0][..], &[0, 0, 0], &[], &[2, 1], &[2, 1, 0, 0]];
+    for first in lists {
+        for second in lists {
+            if first.len() != 3 || second.len() != 3 {
+                refused_pair(&case, first, second, Refusal::ListLength);
+            }
+        }
+    }
+    refused_pair(&case, &[0; HOURS + 1], &[0; HOURS], Refusal::ListLength);
 }
 
 #[test]
