@@ -31,7 +31,7 @@ from ._boundary import FILE_MOST, HOURS, STAGES, WORK, LibraryError, calls, libr
 from ._boundary import Case as _Case
 from ._texts import REFUSALS, RULES
 
-__version__ = "1.0.0"
+__version__ = "1.1.0"
 
 __all__ = [
     "Case", "Passes", "Breaks", "Plan", "First", "Second", "Neither", "Refusal", "LibraryError",
