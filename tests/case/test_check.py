@@ -6,7 +6,7 @@ import json
 import random
 from dataclasses import replace
 
-from tool import CASE_7, SOURCE, SOURCE_LIST, ToolTest, giqapsun, list_text, small, texts
+from tool import CASE_7, SOURCE, SOURCE_LIST, ToolTest, giqapsun, list_text, random_list, small, texts
 
 from rules import Marks, breach, kept
 
@@ -197,7 +197,7 @@ class Words(ToolTest):
         chance = random.Random(7)
         seen = {}
         for _ in range(3000):
-            case, outputs = _random(chance)
+            case, outputs = random_list(chance)
             verdict = giqapsun.check(case, outputs)
             marks = Marks(case, outputs)
             broken = [
@@ -214,26 +214,3 @@ class Words(ToolTest):
                 seen[verdict.rule] = seen.get(verdict.rule, 0) + 1
         # 7, 8 and 12 are never named: docs/DECISIONS.md
         self.assertEqual(sorted(set(RULES) - set(seen)), [7, 8, 12])
-
-
-def _random(chance):
-    """A small unit and a list near its outputs."""
-    number = chance.randint
-    minimum = number(1, 3)
-    capacity = number(minimum, 5)
-    rise = sorted({*(number(1, minimum) for _ in range(2)), minimum})
-    fall = sorted({*(number(1, minimum) for _ in range(2)), minimum}, reverse=True)
-    hours = number(1, 6)
-    case = small(
-        capacity=capacity, minimum=minimum, rampup=number(1, 3), rampdown=chance.choice((1, 2, 3, 400)),
-        minup=number(1, 3), mindown=number(1, 3), initial=chance.choice((0, number(minimum, capacity))),
-        elapsed=number(len(rise), 4), rise=rise, fall=fall, prices=[5] * hours,
-        orders=[chance.choice((0, 0, 0, 0, 1, 2)) for _ in range(hours)],
-    )
-    if chance.random() < 0.5:
-        return case, [chance.choice((0, 0, *rise, number(0, capacity + 1))) for _ in range(hours)]
-    free = replace(case, orders=[0] * hours, prices=[number(0, 40) for _ in range(hours)])
-    outputs = giqapsun.best(free).outputs
-    if chance.random() < 0.8:
-        outputs[number(0, hours - 1)] = number(0, capacity + 1)
-    return case, outputs

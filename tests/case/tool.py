@@ -8,6 +8,7 @@ import sys
 import tempfile
 import unittest
 from contextlib import chdir, redirect_stderr, redirect_stdout
+from dataclasses import replace
 from pathlib import Path
 from unittest import mock
 
@@ -75,6 +76,29 @@ def texts(name):
 def list_text(outputs):
     """The file of a list."""
     return "hour,output\n" + "".join(f"{k},{output}\n" for k, output in enumerate(outputs, 1))
+
+
+def random_list(chance):
+    """A small unit and a list near its outputs."""
+    number = chance.randint
+    minimum = number(1, 3)
+    capacity = number(minimum, 5)
+    rise = sorted({*(number(1, minimum) for _ in range(2)), minimum})
+    fall = sorted({*(number(1, minimum) for _ in range(2)), minimum}, reverse=True)
+    hours = number(1, 6)
+    case = small(
+        capacity=capacity, minimum=minimum, rampup=number(1, 3), rampdown=chance.choice((1, 2, 3, 400)),
+        minup=number(1, 3), mindown=number(1, 3), initial=chance.choice((0, number(minimum, capacity))),
+        elapsed=number(len(rise), 4), rise=rise, fall=fall, prices=[5] * hours,
+        orders=[chance.choice((0, 0, 0, 0, 1, 2)) for _ in range(hours)],
+    )
+    if chance.random() < 0.5:
+        return case, [chance.choice((0, 0, *rise, number(0, capacity + 1))) for _ in range(hours)]
+    free = replace(case, orders=[0] * hours, prices=[number(0, 40) for _ in range(hours)])
+    outputs = giqapsun.best(free).outputs
+    if chance.random() < 0.8:
+        outputs[number(0, hours - 1)] = number(0, capacity + 1)
+    return case, outputs
 
 
 class ToolTest(unittest.TestCase):

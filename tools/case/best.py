@@ -7,6 +7,7 @@ from dataclasses import dataclass, replace
 from pathlib import Path
 
 from faults import Fault, Refused
+from hours import agree, earnings, energies
 from layout import case_of
 from module import giqapsun
 from money import dollars_of_half_mills, dollars_of_mills, machine, megawatt_hours
@@ -137,20 +138,9 @@ def _numbers(runs, lines, place, form):
 
 
 def _day(reading, outputs, profit, found_by):
-    before = [reading.case.initial, *outputs]
-    energies = [earlier + output for earlier, output in zip(before, outputs)]
-    earnings = [_earned(reading.case, *hour) for hour in zip(reading.case.prices, before, outputs)]
-    if sum(earnings) != profit:
-        raise Fault(found_by, 1, "profit", f"{profit}, and the hours earn {sum(earnings)}")
-    return Day(reading, outputs, energies, earnings, profit, found_by)
-
-
-def _earned(case, price, before, output):
-    """What an hour earns in half-mills: energy sold less F, A if on-line, B for a start, C for a stop."""
-    charges = case.fixed * (output > 0)
-    charges += case.startcost * (before == 0 < output)
-    charges += case.stopcost * (output == 0 < before)
-    return (price - case.variable) * (before + output) - 2 * charges
+    earned = earnings(reading.case, outputs)
+    agree(found_by, 1, profit, earned)
+    return Day(reading, outputs, energies(reading.case, outputs), earned, profit, found_by)
 
 
 def best_text(day):

@@ -19,13 +19,38 @@ class Checked:
     verdict: giqapsun.Passes | giqapsun.Breaks
 
     @property
+    def passes(self):
+        """Whether the list keeps every rule."""
+        return isinstance(self.verdict, giqapsun.Passes)
+
+    @property
     def status(self):
         """The exit status: 0 if the list passes, 1 if it breaks a rule."""
-        return int(isinstance(self.verdict, giqapsun.Breaks))
+        return int(not self.passes)
 
     def breach(self):
         """The breach in words."""
         return breach(self.reading.case, self.outputs, self.verdict.hour, self.verdict.rule)
+
+    def lines(self):
+        """The verdict for a reader; a breach in words has a line of its own."""
+        verdict = self.verdict
+        if self.passes:
+            return [f"passes: earns ${dollars_of_half_mills(verdict.profit)} ({verdict.profit} half-mills)"]
+        return [f"breaks rule {verdict.rule} at hour {verdict.hour}: {verdict.text}", self.breach()]
+
+    def fields(self):
+        """The verdict for a program."""
+        verdict, passes = self.verdict, self.passes
+        return {
+            "verdict": "passes" if passes else "breaks",
+            "profit_half_mills": verdict.profit if passes else None,
+            "profit_dollars": machine(dollars_of_half_mills(verdict.profit)) if passes else None,
+            "hour": None if passes else verdict.hour,
+            "rule": None if passes else verdict.rule,
+            "rule_text": None if passes else verdict.text,
+            "text": None if passes else self.breach(),
+        }
 
 
 def checked(reading, file, outputs):
@@ -33,40 +58,26 @@ def checked(reading, file, outputs):
     try:
         return Checked(reading, outputs, giqapsun.check(reading.case, outputs))
     except giqapsun.Refusal as refused:
-        details = [f"outputs: {len(outputs)}, {len(reading.case.prices)} (the hours of the case) needed"]
-        raise Refused(file, refused.number, details if refused.number == 9 else ()) from None
+        details = [other_length(reading.case, outputs)] if refused.number == 9 else ()
+        raise Refused(file, refused.number, details) from None
+
+
+def other_length(case, outputs):
+    """What is wrong with a list that is not of T outputs."""
+    return f"outputs: {len(outputs)}, {len(case.prices)} (the hours of the case) needed"
 
 
 def checked_text(checked_list):
-    """The verdict for a reader."""
-    verdict = checked_list.verdict
-    if checked_list.status == 0:
-        lines = [f"passes: earns ${dollars_of_half_mills(verdict.profit)} ({verdict.profit} half-mills)"]
-    else:
-        lines = [f"breaks rule {verdict.rule} at hour {verdict.hour}: {verdict.text}", checked_list.breach()]
-    return "\n".join([*lines, BY[checked_list.reading.by]]) + "\n"
+    """The verdict for a reader, and who has read the case."""
+    return "\n".join([*checked_list.lines(), BY[checked_list.reading.by]]) + "\n"
 
 
 def checked_json(checked_list):
-    """The verdict for a program."""
-    return json_of({**_fields(checked_list), "read_by": checked_list.reading.by})
+    """The verdict for a program, and who has read the case."""
+    return json_of({**checked_list.fields(), "read_by": checked_list.reading.by})
 
 
 def checked_csv(checked_list):
     """The verdict as a table of one row."""
-    fields = _fields(checked_list)
+    fields = checked_list.fields()
     return csv_of(fields.keys(), [fields.values()])
-
-
-def _fields(checked_list):
-    verdict = checked_list.verdict
-    passes = checked_list.status == 0
-    return {
-        "verdict": "passes" if passes else "breaks",
-        "profit_half_mills": verdict.profit if passes else None,
-        "profit_dollars": machine(dollars_of_half_mills(verdict.profit)) if passes else None,
-        "hour": None if passes else verdict.hour,
-        "rule": None if passes else verdict.rule,
-        "rule_text": None if passes else verdict.text,
-        "text": None if passes else checked_list.breach(),
-    }

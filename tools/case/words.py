@@ -1,4 +1,5 @@
-"""The fields of a case: the record's name of each, what it means and its unit; the words of an order."""
+"""The fields of a case: the record's name of each, what it means and its unit; the words of an order; how numbers and
+names are written."""
 
 # MW, hours
 NUMBERS = {
@@ -50,3 +51,8 @@ def listed(numbers):
 def counted(number, noun):
     """A number and its noun, as 1 hour or 2 hours."""
     return f"{number} {noun}" if number == 1 else f"{number} {noun}s"
+
+
+def printable(name):
+    """A name with ? for each letter that is none."""
+    return "".join(letter if letter.isprintable() else "?" for letter in name)
