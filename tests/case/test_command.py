@@ -17,9 +17,12 @@ import time
 from contextlib import redirect_stderr
 from unittest import mock
 
-from tool import CASE_7, CASES, PRICES, SOURCE, TOOL, ToolTest, giqapsun, unit
+from tool import CASE_7, CASES, PRICES, SOURCE, SOURCE_LIST, TOOL, ToolTest, giqapsun, list_text, unit
 
 MAKE = ("make", str(CASES / "case7.toml"), str(CASES / "case7.csv"))
+
+# each command, with a file to follow
+READING = (("show",), ("best",), ("make", "u.toml"), ("check", "d.case"), ("better", "d.case", "l.csv"))
 
 
 class Words(ToolTest):
@@ -35,6 +38,8 @@ class Words(ToolTest):
         for words in (
             [], ["make"], ["make", "u.toml"], ["best"], ["draw", "d.case"], ["check", "d.case"], ["check", "-", "-"],
             ["make", "-", "-"], ["show", "d.case", "--json", "--csv"], ["show", "d.case", "--json", "--toml", "u.toml"],
+            ["better"], ["better", "d.case", "a.csv"], ["better", "d.case", "-", "-"], ["better", "-", "a.csv", "-"],
+            ["better", "d.case", "a.csv", "b.csv", "c.csv"], ["better", "d.case", "a.csv", "b.csv", "--json", "--csv"],
         ):
             status, printed, message = self.run_tool(*words)
             self.assertEqual((status, printed), (2, b""))
@@ -44,9 +49,9 @@ class Words(ToolTest):
         self.assertEqual(self.run_tool("--version"), (0, f"case {giqapsun.__version__}\n".encode(), ""))
 
     def test_help(self):
-        for words in ((), ("make",), ("show",), ("best",), ("check",)):
+        for words in ((), ("make",), ("show",), ("best",), ("check",), ("better",)):
             text = " ".join(self.answered(*words, "--help").decode().split())
-            self.assertIn("Exit status: 0 done, and for check: the list passes; 1 the list breaks a rule", text)
+            self.assertIn("Exit status: 0 done, and for check and better: a list passes; 1 no list passes", text)
             self.assertIn("2 refused, bad input", text)
 
     def test_standard_input(self):
@@ -69,8 +74,9 @@ class Inputs(ToolTest):
         (self.folder / "folder").mkdir()
         self.file("d.case", CASE_7)
         os.symlink("nowhere", self.folder / "dangling")
-        for words in (("show",), ("best",), ("make", "u.toml"), ("check", "d.case")):
-            self.file("u.toml", unit())
+        self.file("u.toml", unit())
+        self.file("l.csv", list_text([2, 1, 0]))
+        for words in READING:
             self.at_fault("folder: Is a directory", *words, "folder")
             self.at_fault("dangling: No such file or directory", *words, "dangling")
             self.at_fault("/dev/zero: more than 1,048,576 bytes, too long for an input", *words, "/dev/zero")
@@ -81,7 +87,8 @@ class Inputs(ToolTest):
         garbage = bytes((37 * i * i + 11) % 256 for i in range(500))
         self.file("d.case", CASE_7)
         self.file("u.toml", unit())
-        for words in (("show",), ("best",), ("make", "u.toml"), ("check", "d.case")):
+        self.file("l.csv", list_text([2, 1, 0]))
+        for words in READING:
             for data in (garbage, b"\0" * 100, b"\n\n\n", b"", SOURCE):
                 status, printed, message = self.run_tool(*words, self.file("garbage", data))
                 if words in (("show",), ("best",)) and data is SOURCE:
@@ -182,8 +189,11 @@ class StandardOutput(ToolTest):
 
     def test_closed_pipe(self):
         self.file("d.case", SOURCE)
-        self.file("l.csv", "hour,output\n")
-        for words in ("show d.case", "show d.case --json", "best d.case", f"make {MAKE[1]} {MAKE[2]}"):
+        self.file("l.csv", list_text(SOURCE_LIST))
+        for words in (
+            "show d.case", "show d.case --json", "best d.case", f"make {MAKE[1]} {MAKE[2]}", "check d.case l.csv",
+            "better d.case l.csv l.csv", "better d.case l.csv l.csv --json",
+        ):
             command = f"(sleep 0.1; CASE {words}; echo $? >status) | true"
             self.assertEqual(self.shell(command), (0, ""))
             self.assertEqual((self.folder / "status").read_text(), "141\n")
@@ -191,15 +201,21 @@ class StandardOutput(ToolTest):
 
     def test_full_disk(self):
         self.file("d.case", SOURCE)
+        self.file("l.csv", list_text(SOURCE_LIST))
         full = (2, "case: standard output: No space left on device\n")
-        for words in ("show d.case", "best d.case --csv", f"make {MAKE[1]} {MAKE[2]}", "--help", "--version"):
+        for words in (
+            "show d.case", "best d.case --csv", f"make {MAKE[1]} {MAKE[2]}", "better d.case l.csv l.csv", "--help",
+            "--version",
+        ):
             self.assertEqual(self.shell(f"CASE {words} >/dev/full"), full)
         self.assertEqual(self.shell("CASE show none 2>/dev/full"), (2, ""))
 
     def test_none(self):
         """Outputs that are closed."""
         self.file("d.case", SOURCE)
-        self.assertEqual(self.shell("CASE show d.case >&-"), (2, "case: standard output: it is closed\n"))
+        self.file("l.csv", list_text(SOURCE_LIST))
+        for words in ("show d.case", "better d.case l.csv l.csv --csv"):
+            self.assertEqual(self.shell(f"CASE {words} >&-"), (2, "case: standard output: it is closed\n"))
         self.assertEqual(self.shell("CASE show none 2>&-"), (2, ""))
 
     def test_interrupted(self):

@@ -1,33 +1,20 @@
 """case best --plot: what the picture holds."""
 
-import re
-import xml.etree.ElementTree as ElementTree
-
-from tool import SOURCE, SOURCE_LIST, ToolTest, file_of
-
-SVG = "{http://www.w3.org/2000/svg}"
+from tool import SOURCE, SOURCE_LIST, SVG, PictureTest, file_of
 
 
-class Plot(ToolTest):
+class Plot(PictureTest):
     """Pictures of best days."""
 
     def picture(self, data, name="d.case"):
         """The picture of a case's best day."""
-        self.answered("best", self.file(name, data), "--plot", "d.svg", GIQAPSUN_BEST_DAY="")
-        return ElementTree.parse(self.folder / "d.svg").getroot()
-
-    def texts(self, picture):
-        """Every text of a picture."""
-        return [text.text for text in picture.iter(SVG + "text")]
-
-    def kinds(self, picture, tag, kind):
-        """The elements of a tag that have a class."""
-        return [found for found in picture.iter(SVG + tag) if kind in found.get("class", "").split()]
+        self.answered("best", self.file(name, data), "--plot", "p.svg", GIQAPSUN_BEST_DAY="")
+        return self.drawn()
 
     def test_source_day(self):
         picture = self.picture(SOURCE)
         table = self.answered("best", "d.case", GIQAPSUN_BEST_DAY="")
-        self.assertEqual(table, self.answered("best", "d.case", "--plot", "d.svg", GIQAPSUN_BEST_DAY=""))
+        self.assertEqual(table, self.answered("best", "d.case", "--plot", "p.svg", GIQAPSUN_BEST_DAY=""))
         texts = self.texts(picture)
         for label in (
             "Best day of d.case", "output p(k) (MW)", "price ($/MWh)", "earnings ($)", "capacity", "minimum",
@@ -61,7 +48,7 @@ class Plot(ToolTest):
 
     def test_hovers(self):
         """A title for each hour."""
-        titles = [group.find(SVG + "title").text for group in self.picture(SOURCE).iter(SVG + "g")]
+        titles = self.titles(self.picture(SOURCE))
         self.assertEqual(len(titles), 24)
         self.assertEqual(
             titles[2], "hour 3: 70 MW at its end, 91.0 MWh at 22.209 $/MWh, earns -1,536.9810 $"
@@ -77,7 +64,7 @@ class Plot(ToolTest):
             hatched = [rect for rect in self.kinds(picture, "rect", order) if "swatch" not in rect.get("class")]
             self.assertEqual([float(rect.get("width")) for rect in hatched], [127.0 * hours] * 3)
             self.assertIn(f"{order}: ordered {order}-line", self.texts(picture))
-        titles = [group.find(SVG + "title").text for group in picture.iter(SVG + "g")]
+        titles = self.titles(picture)
         self.assertTrue(titles[3].startswith("hour 4 (ordered off-line): 0 MW at its end, 0.5 MWh at 0.010 $/MWh"))
 
     def test_cost_off_the_scale(self):
@@ -93,17 +80,7 @@ class Plot(ToolTest):
         self.picture(file_of(prices=[65535], orders=[0]))
 
     def test_colours(self):
-        """Every colour stands in the style, once for light and once for a dark screen; paper has the light ones."""
-        picture = self.picture(SOURCE)
-        style = picture.find(SVG + "style").text
-        light, dark = style.split("@media screen and (prefers-color-scheme: dark)")
-        for found in picture.iter():
-            self.assertFalse({"fill", "stroke", "style"} & set(found.attrib))
-        classes = {kind for found in picture.iter() for kind in found.get("class", "").split()}
-        for kind in classes:
-            self.assertRegex(light, rf"(?m)^\.{kind}\b")
-        coloured = {name for name in re.findall(r"(?m)^\.([\w-]+) .*#[0-9a-f]{6}", light)}
-        self.assertEqual(coloured - set(re.findall(r"\.([\w-]+)", dark)), set())
+        self.coloured(self.picture(SOURCE))
 
     def test_strange_name(self):
         texts = self.texts(self.picture(file_of(), "a&<b>\x01.case"))

@@ -125,11 +125,13 @@ class NotBuilt(ToolTest):
         self.file("d.case", file_of(initial=0, orders=[0, 2, 1]))
         self.assertIn("case: orders: on-line at hour 3\n", self.run_copy("best", "d.case", **fake)[2])
 
-    def test_check(self):
-        """The verdict is the library's alone."""
+    def test_check_and_better(self):
+        """The verdict and the choice are the library's alone."""
         self.file("d.case", CASE_7)
+        self.file("l.csv", list_text([2, 1, 0]))
         advice = "case: libgiqapsun.so is not built: run bindings/build.sh, or set GIQAPSUN_LIBRARY\n"
-        self.assertEqual(self.run_copy("check", "d.case", self.file("l.csv", list_text([2, 1, 0]))), (2, b"", advice))
+        for words in (("check", "d.case", "l.csv"), ("better", "d.case", "l.csv", "l.csv")):
+            self.assertEqual(self.run_copy(*words), (2, b"", advice))
 
     def test_a_library_that_is_none(self):
         """A library that is named and cannot serve is a fault; the tool's own reader does not stand in for it."""

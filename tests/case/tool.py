@@ -2,11 +2,13 @@
 
 import io
 import os
+import re
 import runpy
 import subprocess
 import sys
 import tempfile
 import unittest
+import xml.etree.ElementTree as ElementTree
 from contextlib import chdir, redirect_stderr, redirect_stdout
 from dataclasses import replace
 from pathlib import Path
@@ -16,6 +18,7 @@ ROOT = Path(__file__).resolve().parents[2]
 CASES = ROOT / "cases"
 FAKE = ROOT / "tests/case/fake_best_day"
 TOOL = ROOT / "tools/case/case"
+SVG = "{http://www.w3.org/2000/svg}"
 
 sys.path.append(str(TOOL.parent))
 MAIN = runpy.run_path(str(TOOL))["main"]
@@ -150,3 +153,35 @@ class ToolTest(unittest.TestCase):
         """The tool names the fault, prints nothing else, and ends with status 2."""
         lines = "".join(f"case: {line}\n" for line in message.splitlines())
         self.assertEqual(self.run_tool(*words, **environment), (2, b"", lines))
+
+
+class PictureTest(ToolTest):
+    """A test of a picture, which the tool has written to p.svg."""
+
+    def drawn(self):
+        """The picture."""
+        return ElementTree.parse(self.folder / "p.svg").getroot()
+
+    def texts(self, picture):
+        """Every text of a picture."""
+        return [text.text for text in picture.iter(SVG + "text")]
+
+    def titles(self, picture):
+        """The title of each hour."""
+        return [group.find(SVG + "title").text for group in picture.iter(SVG + "g")]
+
+    def kinds(self, picture, tag, kind):
+        """The elements of a tag that have a class."""
+        return [found for found in picture.iter(SVG + tag) if kind in found.get("class", "").split()]
+
+    def coloured(self, picture):
+        """Every colour stands in the style, once for light and once for a dark screen; paper has the light ones."""
+        style = picture.find(SVG + "style").text
+        light, dark = style.split("@media screen and (prefers-color-scheme: dark)")
+        for found in picture.iter():
+            self.assertFalse({"fill", "stroke", "style"} & set(found.attrib))
+        classes = {kind for found in picture.iter() for kind in found.get("class", "").split()}
+        for kind in classes:
+            self.assertRegex(light, rf"(?m)^\.{kind}\b")
+        coloured = {name for name in re.findall(r"(?m)^\.([\w-]+) .*#[0-9a-f]{6}", light)}
+        self.assertEqual(coloured - set(re.findall(r"\.([\w-]+)", dark)), set())

@@ -1,4 +1,4 @@
-"""Case files of the day scheduler: make one, show one, find its best day, check a list of outputs."""
+"""Case files of the day scheduler: make one, show one, find its best day, check a list of outputs, compare two."""
 
 import argparse
 import os
@@ -6,12 +6,14 @@ import sys
 from dataclasses import dataclass
 
 from best import best_csv, best_day, best_json, best_text
+from better import better_csv, better_json, better_text, compared
 from check import checked, checked_csv, checked_json, checked_text
 from faults import Fault, Refused, named
 from files import contents, write
 from lists import read_list
 from module import giqapsun
 from plot import svg
+from plot_two import svg_of_two
 from prices import prices_text, read_prices
 from reading import BY, file_of, read_case, reader
 from show import shown_csv, shown_json, shown_text
@@ -19,8 +21,8 @@ from tables import json_of
 from unit import Unit, unit_text
 
 STATUSES = """\
-Exit status: 0 done, and for check: the list passes; 1 the list breaks a rule (check only); 2 refused, bad input, or
-an answer that cannot be written. A fault is named on standard error.
+Exit status: 0 done, and for check and better: a list passes; 1 no list passes (check and better only); 2 refused, bad
+input, or an answer that cannot be written. A fault is named on standard error.
 """
 
 MAKE = """\
@@ -40,6 +42,12 @@ same case. A file that would be refused is not shown: the fault says why.
 CHECK = """\
 The list's file begins with the line hour,output and has a line for each hour from 1, outputs in MW; the table that
 best --csv prints is one too.
+"""
+
+BETTER = """\
+Both lists are checked against the case, and the one to offer is named. A list that passes beats one that does not; then
+the higher profit wins; then the lower output at the first hour where they differ; of identical lists the first is
+named. If neither passes, neither is. Each file is a list as check takes it.
 """
 
 
@@ -103,6 +111,17 @@ def check(arguments):
     return Answer(answer.data, verdict.status)
 
 
+def better(arguments):
+    """Which of two lists to offer; the picture of both goes to a file of its own."""
+    reading = read_case(arguments.file, contents(arguments.file))
+    first, second = ((file, read_list(file)) for file in (arguments.first, arguments.second))
+    pair = compared(arguments.file, reading, first, second)
+    if arguments.plot is not None:
+        write(arguments.plot, svg_of_two(pair, os.path.basename(named(arguments.file))).encode())
+    answer = _formed(arguments, pair, reading, better_text, better_json, better_csv)
+    return Answer(answer.data, pair.status)
+
+
 def _formed(arguments, answer, reading, text, json, csv):
     """An answer in the form that is asked for; CSV has no place for who has read the case, so it is noted."""
     if arguments.form == "csv":
@@ -114,7 +133,7 @@ def parsed(words):
     """The command line."""
     parser = argparse.ArgumentParser(prog="case", description=__doc__, epilog=STATUSES)
     parser.add_argument("--version", action="version", version=f"case {giqapsun.__version__}")
-    commands = parser.add_subparsers(required=True, metavar="make | show | best | check")
+    commands = parser.add_subparsers(required=True, metavar="make | show | best | check | better")
     command = _command(commands, make, "write the case of a unit and its prices", MAKE)
     command.add_argument("unit", metavar="UNIT.toml")
     command.add_argument("prices", metavar="PRICES.csv")
@@ -132,8 +151,14 @@ def parsed(words):
     command.add_argument("file", metavar="DAY.case")
     command.add_argument("list", metavar="LIST.csv")
     _forms(command)
+    command = _command(commands, better, "find which of two lists of outputs to offer", BETTER)
+    command.add_argument("file", metavar="DAY.case")
+    command.add_argument("first", metavar="FIRST.csv")
+    command.add_argument("second", metavar="SECOND.csv")
+    command.add_argument("--plot", metavar="FILE.svg", help="draw both lists and the prices too")
+    _forms(command)
     arguments = parser.parse_args(words)
-    inputs = [getattr(arguments, name, None) for name in ("unit", "file", "list")]
+    inputs = [getattr(arguments, name, None) for name in ("unit", "file", "list", "first", "second")]
     inputs.append(arguments.prices if arguments.run is make else None)
     if inputs.count("-") > 1:
         parser.error("standard input can be read as one file only")

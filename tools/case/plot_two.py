@@ -1,0 +1,70 @@
+"""Two lists as an SVG picture: the outputs of both above the prices, hours along both. The first is a full line with
+dots, the second a dashed line with squares, so that they are told apart without colours; a mark stands under the end of
+each hour where they differ."""
+
+from money import dollars_of_half_mills, dollars_of_mills
+from picture import LEFT, RIGHT, Outputs, dot, hovers, ordered, picture, polyline, prices_panel, rect, square, text
+from words import printable
+
+HEIGHT = 640
+OUTPUTS, PRICES = (140, 370), (444, 584)
+
+# how each list is drawn, and where its key stands
+DRAWN = {"first": ("line output", dot, 80), "second": ("line other", square, 102)}
+
+# letters of a file's name that a key has room for
+MOST = 60
+
+
+def svg_of_two(pair, name):
+    """The picture of two lists, with the name of their case for a title."""
+    case = pair.reading.case
+    chosen, _ = pair.chosen
+    which = f"the {chosen.place}" if chosen else "neither"
+    parts = [
+        *_key(pair.first),
+        *_key(pair.second),
+        *_outputs(pair),
+        *prices_panel(case, PRICES),
+        *hovers(len(case.prices), (OUTPUTS[0], PRICES[1]), map(_title, pair.hours())),
+    ]
+    return picture(HEIGHT, f"Two lists for {printable(name)}", f"offer {which}: {pair.why()}", case.orders, parts)
+
+
+def _key(house):
+    """How a list is drawn, its file, and what it earns or which rule it breaks."""
+    kind, mark, y = DRAWN[house.place]
+    name, verdict = house.name, house.checked.verdict
+    if len(name) > MOST:
+        name = f"...{name[3 - MOST:]}"
+    if house.checked.passes:
+        said = f"earns ${dollars_of_half_mills(house.profit)}"
+    else:
+        said = f"breaks rule {verdict.rule} at hour {verdict.hour}"
+    yield polyline([f"{LEFT},{y}", f"{LEFT + 44},{y}"], kind)
+    yield mark(f"{LEFT + 22},{y}")
+    yield text(LEFT + 54, y + 4, f"{house.place}: {name}, {said}")
+
+
+def _outputs(pair):
+    """Both lists over the day: straight within each hour, a mark at the end of each."""
+    panel = Outputs(pair.reading.case, [*pair.first.outputs, *pair.second.outputs], OUTPUTS)
+    yield from panel.ground()
+    for house in (pair.first, pair.second):
+        kind, mark, _ = DRAWN[house.place]
+        points = panel.points(house.outputs)
+        yield polyline(points, kind)
+        yield from map(mark, points[1:])
+    yield dot(points[0], "dot before")
+    differ = [k for k, _, _, first, second, _, _ in pair.hours() if first != second]
+    yield from (rect(panel.x(k) - 4, panel.bottom + 27, 8, 6, "differs") for k in differ)
+    if differ:
+        yield text(RIGHT + 12, panel.bottom + 34, "they differ", kind="note")
+
+
+def _title(hour):
+    k, order, price, first, second, earned, others = hour
+    return (
+        f"{ordered(k, order)}, {dollars_of_mills(price)} $/MWh: {first} MW in the first, which earns "
+        f"${dollars_of_half_mills(earned)}; {second} MW in the second, which earns ${dollars_of_half_mills(others)}"
+    )
