@@ -8,7 +8,9 @@ import random
 import re
 from unittest import mock
 
-from tool import CASE_7, SOURCE, SOURCE_LIST, SVG, PictureTest, file_of, giqapsun, list_text, random_list, texts
+from tool import (
+    CASE_7, CASES, ROOT, SOURCE, SOURCE_LIST, SVG, PictureTest, file_of, giqapsun, list_text, random_list, texts,
+)
 
 from better import compared
 from reading import Reading
@@ -121,6 +123,17 @@ class Printed(PairTest):
 
     def test_text(self):
         self.assertEqual(self.compared(CASE_7, BEST, HIGH), (0, TABLE))
+
+    def test_stored_lists(self):
+        """What docs/readers/trading-desk.md shows of the stored lists is printed, in its order."""
+        os.symlink(CASES, self.folder / "cases")
+        command = "tools/case/case better cases/source.case cases/house_a.csv cases/house_b.csv"
+        printed = iter(self.answered(*command.split()[1:]).decode().splitlines())
+        page = (ROOT / "docs/readers/trading-desk.md").read_text()
+        shown = re.search(rf"\n    {command}\n\n((?:    .*\n|\n)+)", page)[1].splitlines()
+        self.assertEqual(len(shown), 15 + 1)
+        for line in filter(None, shown):
+            self.assertIn(line.removeprefix("    "), printed)
 
     def test_marks(self):
         """Lower, higher and equal."""
