@@ -3,6 +3,7 @@
 use crate::answers;
 use crate::case::Case;
 use crate::dp::best_list;
+use crate::pair;
 use std::slice;
 
 /// What reading gives.
@@ -32,6 +33,14 @@ pub struct Verdict {
 #[repr(C)]
 pub struct Plan {
     pub number: u32,
+    pub profit: i64,
+}
+
+/// What the comparison of two lists gives.
+#[repr(C)]
+pub struct Choice {
+    pub number: u32,
+    pub which: u32,
     pub profit: i64,
 }
 
@@ -80,4 +89,23 @@ pub unsafe extern "C" fn oracle_best(case: Case, numbers: usize, outputs: *mut u
     let answer = answers::schedule(&case, numbers, count, best_list);
     slice::from_raw_parts_mut(outputs, count)[..answer.list.len()].copy_from_slice(&answer.list);
     Plan { number: answer.number, profit: answer.profit }
+}
+
+/// Compares two lists of outputs.
+///
+/// # Safety
+///
+/// So many outputs of each can be read.
+#[no_mangle]
+pub unsafe extern "C" fn oracle_better(
+    case: Case,
+    first: *const u16,
+    first_count: usize,
+    second: *const u16,
+    second_count: usize,
+) -> Choice {
+    let (first, second) =
+        (slice::from_raw_parts(first, first_count), slice::from_raw_parts(second, second_count));
+    let pair::Choice { number, which, profit } = pair::choice(&case, first, second);
+    Choice { number, which, profit }
 }

@@ -5,6 +5,7 @@
 use crate::best::Plan;
 use crate::case::{Case, OFF_LINE, ON_LINE};
 use crate::profit::hour_profit;
+use crate::random::Rng;
 
 /// What the rest of the day depends on at the end of an hour.
 #[derive(Clone, Copy, Debug, PartialEq, Eq)]
@@ -210,28 +211,64 @@ fn all_values(case: &Case) -> Vec<Values> {
     backwards
 }
 
+/// The lists that keep every rule of a case. The case has passed the refusals.
+pub struct KeptLists<'a> {
+    case: &'a Case,
+    values: Vec<Values>,
+}
+
+impl<'a> KeptLists<'a> {
+    /// The lists of this case.
+    pub fn new(case: &'a Case) -> KeptLists<'a> {
+        KeptLists { case, values: all_values(case) }
+    }
+
+    /// The best list with its profit, the lowest list among equal earners; none if no list keeps every
+    /// rule.
+    pub fn best(&self) -> Option<Plan> {
+        let profit = self.values[0].get(opening(self.case))?;
+        let list = self.walk(|steps, wanted| steps.iter().copied().find(|&(_, value)| value == wanted));
+        Some(Plan { profit, list: list.expect("a state with a value has a step that reaches it") })
+    }
+
+    /// A list that begins with these outputs and goes on at random; none if no list that keeps the rules
+    /// begins so.
+    pub fn draw(&self, rng: &mut Rng, beginning: &[u16]) -> Option<Vec<u16>> {
+        let mut given = beginning.iter();
+        self.walk(|steps, _| match given.next() {
+            Some(&wanted) => steps.iter().copied().find(|&(to, _)| output(self.case, to) == wanted),
+            None => steps.get(rng.below(steps.len().max(1) as u64) as usize).copied(),
+        })
+    }
+
+    /// The list of the steps that are chosen hour by hour, from those after which the day can be ended,
+    /// lowest output first, each with what it earns, and from the most that can be earned.
+    fn walk(&self, mut choose: impl FnMut(&[Step], i64) -> Option<Step>) -> Option<Vec<u16>> {
+        let mut state = opening(self.case);
+        let mut list = Vec::new();
+        for k in 1..=self.case.t {
+            let wanted = self.values[k - 1].get(state)?;
+            (state, _) = choose(&self.steps(k, state), wanted)?;
+            list.push(output(self.case, state));
+        }
+        Some(list)
+    }
+
+    /// The steps of hour k from a state after which the day can be ended, lowest output first.
+    fn steps(&self, k: usize, from: State) -> Vec<Step> {
+        let mut steps = Vec::new();
+        for_each_next(self.case, from, |to| {
+            steps.extend(value_of_step(self.case, k, from, to, &self.values[k]).map(|value| (to, value)));
+        });
+        steps
+    }
+}
+
+/// The state that a step leads to, and the most that its hour and those after it can earn.
+type Step = (State, i64);
+
 /// The best list with its profit, the lowest list among equal earners; none if no list keeps every
 /// rule. The case has passed the refusals.
 pub fn best_list(case: &Case) -> Option<Plan> {
-    let values = all_values(case);
-    let mut state = opening(case);
-    let profit = values[0].get(state)?;
-    let mut list = Vec::new();
-    for k in 1..=case.t {
-        state = lowest_best_step(case, k, state, &values);
-        list.push(output(case, state));
-    }
-    Some(Plan { profit, list })
-}
-
-/// The step of lowest output that still reaches the best value.
-fn lowest_best_step(case: &Case, k: usize, from: State, values: &[Values]) -> State {
-    let wanted = values[k - 1].get(from);
-    let mut step = None;
-    for_each_next(case, from, |to| {
-        if step.is_none() && value_of_step(case, k, from, to, &values[k]) == wanted {
-            step = Some(to);
-        }
-    });
-    step.expect("a state with a value has a step that reaches it")
+    KeptLists::new(case).best()
 }

@@ -1,6 +1,7 @@
 //! The independent scheduler: the day scheduler for one thermal unit, written a second time
 //! from the papers alone. "The scope" in the comments is the paper "The day scheduler for one
-//! thermal unit"; "the source" is the Arroyo and Conejo paper, whose constraints carry numbers.
+//! thermal unit"; "the source" is the Arroyo and Conejo paper, whose constraints carry numbers;
+//! "the request" is the one for two suppliers' lists side by side.
 
 // What the papers say.
 pub mod answers;
@@ -10,6 +11,8 @@ pub mod case;
 pub mod days;
 pub mod dp;
 pub mod file;
+pub mod known_pairs;
+pub mod pair;
 pub mod profit;
 pub mod refusals;
 pub mod rules;
@@ -17,6 +20,7 @@ pub mod rules;
 // Random inputs.
 pub mod damage;
 pub mod lists;
+pub mod pairs;
 pub mod random;
 pub mod units;
 pub mod wild;

@@ -89,7 +89,7 @@ pub fn disturb(rng: &mut Rng, case: &Case, list: &mut [u16]) {
 }
 
 /// Makes the list longer or shorter, mostly by one.
-fn change_length(rng: &mut Rng, list: &mut Vec<u16>) {
+pub fn change_length(rng: &mut Rng, list: &mut Vec<u16>) {
     match rng.below(4) {
         0 => list.truncate(list.len().saturating_sub(1)),
         1 => list.push(0),

@@ -57,6 +57,14 @@ pub fn long_day(rng: &mut Rng) -> Case {
     unit(rng, t, minimum, capacity, money)
 }
 
+/// A few hours of a large unit.
+pub fn short_day(rng: &mut Rng) -> Case {
+    let (t, capacity) = (rng.place(1, 4), rng.between16(260, 400));
+    let minimum = rng.between16(1, 256);
+    let money = rng.pick(&[Money::Even, Money::Realistic, Money::Extreme]);
+    unit(rng, t, minimum, capacity, money)
+}
+
 /// A day of any size within the limits.
 pub fn full_day(rng: &mut Rng) -> Case {
     let t = if rng.once_in(3) { MOST_HOURS } else { rng.place(1, MOST_HOURS) };
@@ -186,6 +194,23 @@ fn set_money(rng: &mut Rng, case: &mut Case, money: Money) {
     for k in 0..case.t {
         case.prices[k] = if flat { first } else { price(rng, f, money) };
     }
+}
+
+/// Makes lists earn the same: every price is F and an on-line hour is free, so that only starts and stops cost, if
+/// they do.
+pub fn set_no_margin(rng: &mut Rng, case: &mut Case) {
+    case.f = case.f.min(u16::MAX.into());
+    case.a = 0;
+    if rng.once_in(2) {
+        (case.b, case.c) = (0, 0);
+    }
+    case.prices[..case.t].fill(case.f as u16);
+}
+
+/// Gives every hour one price, so that outputs can change places and earn the same.
+pub fn set_one_price(case: &mut Case) {
+    let price = case.prices[0];
+    case.prices[..case.t].fill(price);
 }
 
 /// A cost that is mostly 0.

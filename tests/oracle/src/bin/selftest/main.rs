@@ -1,5 +1,7 @@
 //! Holds the independent scheduler against the papers and against itself. Needs no library.
 
+mod pairs;
+
 use oracle::answers;
 use oracle::best::{by_commitment, every_list};
 use oracle::case::Case;
@@ -274,6 +276,10 @@ fn main() -> ExitCode {
     group("dp against by commitment", &mut total, longer_days);
     group("dp's lists on full-size and long days", &mut total, full_days);
     group("random lists against dp", &mut total, random_lists);
+    group("known pairs", &mut total, plain(pairs::known));
+    group("tie of the known pairs", &mut total, plain(pairs::tie));
+    group("better of all lists", &mut total, pairs::folded);
+    group("random pairs", &mut total, pairs::random);
     println!("{} passed, {} failed", total.passed, total.failed);
     ExitCode::from(u8::from(total.failed > 0))
 }
