@@ -1,8 +1,9 @@
 //! What the process that makes the calls tells the one that watches it, in memory that both see: how far it is, what
 //! it has counted, and the call that it is making.
 
-use crate::calls::{Call, Input, Name};
+use crate::calls::{Call, Input, Name, Pair};
 use crate::guard::{shared_bytes, Placement};
+use crate::kinds::KINDS;
 use oracle::case::Case;
 use std::sync::atomic::{AtomicU64, Ordering};
 
@@ -21,6 +22,8 @@ pub struct Tally {
     pub breaches: [u64; 24],
     pub at_hour_0: u64,
     pub refusals: [u64; 12],
+    /// Pairs of lists by kind.
+    pub pairs: [u64; KINDS.len()],
     /// Nanoseconds spent in the library.
     pub library_time: u64,
 }
@@ -35,6 +38,34 @@ struct Kept {
     case: Option<Case>,
     bytes: usize,
     outputs: Option<usize>,
+    /// The second list of a pair, and where it begins in the memory of the first.
+    second: Option<usize>,
+    begins: Option<usize>,
+}
+
+/// An input by its parts.
+#[derive(Default)]
+struct Parts<'a> {
+    case: Option<&'a Case>,
+    bytes: &'a [u8],
+    outputs: Option<&'a [u16]>,
+    second: Option<&'a [u16]>,
+    begins: Option<usize>,
+}
+
+impl<'a> Parts<'a> {
+    /// The parts of this input.
+    fn of(input: &Input<'a>) -> Parts<'a> {
+        match *input {
+            Input::File(bytes) => Parts { bytes, ..Parts::default() },
+            Input::Case(case) => Parts { case: Some(case), ..Parts::default() },
+            Input::List(case, list) => Parts { case: Some(case), outputs: Some(list), ..Parts::default() },
+            Input::Pair(case, Pair { first, second, begins }) => {
+                let (outputs, second) = (Some(first), Some(second));
+                Parts { case: Some(case), outputs, second, begins, ..Parts::default() }
+            }
+        }
+    }
 }
 
 /// The memory itself.
@@ -47,6 +78,7 @@ struct Shared {
     kept: Kept,
     bytes: [u8; MOST_BYTES],
     outputs: [u16; MOST_OUTPUTS],
+    second: [u16; MOST_OUTPUTS],
 }
 
 /// A handle on the memory.
@@ -91,20 +123,17 @@ impl Board {
 
     /// Says that a call is made.
     pub fn enter(&self, call: &Call) {
-        let (case, bytes, outputs): (Option<Case>, &[u8], Option<&[u16]>) = match call.input {
-            Input::File(bytes) => (None, bytes, None),
-            Input::Case(case) => (Some(*case), &[], None),
-            Input::List(case, list) => (Some(*case), &[], Some(list)),
-        };
-        let list = outputs.unwrap_or(&[]);
+        let Parts { case, bytes, outputs, second, begins } = Parts::of(&call.input);
         let kept = Kept {
             name: call.name,
             place: call.place,
             work: call.work,
             lent: call.lent,
-            case,
+            case: case.copied(),
             bytes: bytes.len().min(MOST_BYTES),
             outputs: outputs.map(|list| list.len().min(MOST_OUTPUTS)),
+            second: second.map(|list| list.len().min(MOST_OUTPUTS)),
+            begins,
         };
         // SAFETY: as for the counts; what is copied has room.
         unsafe {
@@ -112,7 +141,9 @@ impl Board {
             let room = std::ptr::addr_of_mut!((*self.0).bytes).cast::<u8>();
             room.copy_from_nonoverlapping(bytes.as_ptr(), kept.bytes);
             let room = std::ptr::addr_of_mut!((*self.0).outputs).cast::<u16>();
-            room.copy_from_nonoverlapping(list.as_ptr(), list.len().min(MOST_OUTPUTS));
+            room.copy_from_nonoverlapping(outputs.unwrap_or(&[]).as_ptr(), kept.outputs.unwrap_or(0));
+            let room = std::ptr::addr_of_mut!((*self.0).second).cast::<u16>();
+            room.copy_from_nonoverlapping(second.unwrap_or(&[]).as_ptr(), kept.second.unwrap_or(0));
         }
         self.counters().steps.fetch_add(1, Ordering::SeqCst);
     }
@@ -149,10 +180,15 @@ impl Board {
         }
         let shared = self.counters();
         let kept = &shared.kept;
-        let input = match (&kept.case, kept.outputs) {
-            (None, _) => Input::File(&shared.bytes[..kept.bytes]),
-            (Some(case), None) => Input::Case(case),
-            (Some(case), Some(count)) => Input::List(case, &shared.outputs[..count]),
+        let list = &shared.outputs[..kept.outputs.unwrap_or(0)];
+        let input = match (&kept.case, kept.outputs, kept.second) {
+            (None, _, _) => Input::File(&shared.bytes[..kept.bytes]),
+            (Some(case), None, _) => Input::Case(case),
+            (Some(case), Some(_), None) => Input::List(case, list),
+            (Some(case), Some(_), Some(count)) => {
+                let second = &shared.second[..count];
+                Input::Pair(case, Pair { first: list, second, begins: kept.begins })
+            }
         };
         let Kept { name, place, work, lent, .. } = *kept;
         Some(Call { name, place, work, lent, input })

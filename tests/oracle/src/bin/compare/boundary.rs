@@ -1,7 +1,7 @@
 //! The library's C boundary: structs by value, slices as pointer and length. The names end in 1, the number of
 //! the record's layout.
 
-use oracle::c::{Plan, Reading, Verdict, Written};
+use oracle::c::{Choice, Plan, Reading, Verdict, Written};
 use oracle::case::Case;
 
 extern "C" {
@@ -26,4 +26,14 @@ extern "C" {
         outputs: *mut u16,
         outputs_count: usize,
     ) -> Plan;
+
+    /// Compares two lists of outputs.
+    #[link_name = "giqapsun_better_1"]
+    pub fn giqapsun_better(
+        case: Case,
+        first: *const u16,
+        first_count: usize,
+        second: *const u16,
+        second_count: usize,
+    ) -> Choice;
 }

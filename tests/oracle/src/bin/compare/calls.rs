@@ -1,11 +1,12 @@
-//! Each of the four calls, made twice in guarded memory filled with random numbers, and compared with
+//! Each of the five calls, made twice in guarded memory filled with random numbers, and compared with
 //! the answer of the independent scheduler: the answer itself and every lent number.
 
 use crate::board::Board;
-use crate::boundary::{giqapsun_best, giqapsun_check, giqapsun_read, giqapsun_write};
+use crate::boundary::{giqapsun_best, giqapsun_better, giqapsun_check, giqapsun_read, giqapsun_write};
 use crate::guard::{Lent, Placement, Region, PLACEMENTS};
 use oracle::answers::{self, Reading, Schedule, Verdict};
 use oracle::case::Case;
+use oracle::pair::{self, Choice, Outcome};
 use oracle::random::Rng;
 use oracle::refusals::WORKING_NUMBERS;
 use std::fmt::Debug;
@@ -18,6 +19,7 @@ pub enum Name {
     Write,
     Check,
     Best,
+    Better,
     Independent,
 }
 
@@ -29,6 +31,7 @@ impl Name {
             Name::Write => "write",
             Name::Check => "check",
             Name::Best => "best",
+            Name::Better => "better",
             Name::Independent => "independent",
         }
     }
@@ -40,6 +43,46 @@ pub enum Input<'a> {
     File(&'a [u8]),
     Case(&'a Case),
     List(&'a Case, &'a [u16]),
+    Pair(&'a Case, Pair<'a>),
+}
+
+/// Two lists to be compared.
+#[derive(Clone, Copy)]
+pub struct Pair<'a> {
+    pub first: &'a [u16],
+    pub second: &'a [u16],
+    /// Where in the memory of the first list the second begins, at its end at the latest; none if the second has
+    /// memory of its own.
+    pub begins: Option<usize>,
+}
+
+impl<'a> Pair<'a> {
+    /// Two lists in memory of their own.
+    pub fn apart(first: &'a [u16], second: &'a [u16]) -> Pair<'a> {
+        Pair { first, second, begins: None }
+    }
+
+    /// So many outputs from the front of one memory, and those from a place on.
+    pub fn in_one(memory: &'a [u16], count: usize, begins: usize) -> Pair<'a> {
+        Pair { first: &memory[..count], second: &memory[begins..], begins: Some(begins) }
+    }
+
+    /// The memory of both lists, where the second begins so many outputs after the first.
+    fn joined(&self, begins: usize) -> Vec<u16> {
+        let past = self.first.len().saturating_sub(begins).min(self.second.len());
+        [self.first, &self.second[past..]].concat()
+    }
+
+    /// The memory in words.
+    fn words(&self, place: &str) -> String {
+        let (first, second) = (self.first.len(), self.second.len());
+        match self.begins {
+            None => format!("{first} and {second} outputs, each {place}"),
+            Some(begins) => {
+                format!("{first} and {second} outputs, the second from {begins} on in the memory of the first, {place}")
+            }
+        }
+    }
 }
 
 /// A call and the memory that it is lent.
@@ -69,6 +112,10 @@ impl<'a> Call<'a> {
             Name::Best => {
                 format!("giqapsun_best with {} numbers and {lent} outputs, each {place}", self.work)
             }
+            Name::Better => match self.input {
+                Input::Pair(_, pair) => format!("giqapsun_better of {}", pair.words(place)),
+                _ => unreachable!("two lists are compared"),
+            },
             Name::Independent => "none: the independent scheduler disagrees with itself".to_string(),
         }
     }
@@ -84,6 +131,8 @@ pub struct Difference<'a> {
 pub struct Memory {
     bytes: Region,
     outputs: Region,
+    second: Region,
+    cases: Region,
     work: Region,
     noise: Rng,
     board: Board,
@@ -97,6 +146,8 @@ impl Memory {
         Memory {
             bytes: Region::new(4),
             outputs: Region::new(1),
+            second: Region::new(1),
+            cases: Region::new(1),
             work: Region::new(2),
             noise: Rng::for_index(0, 0),
             board,
@@ -182,6 +233,43 @@ impl Memory {
             as_wanted(&call, "the working numbers", &work, &zeroed)?;
         }
         Ok(())
+    }
+
+    /// Compares the comparison of two lists; the case is taken from guarded memory too.
+    pub fn better<'a>(&mut self, case: &'a Case, pair: Pair<'a>) -> Result<Outcome, Difference<'a>> {
+        let outcome = pair::outcome(case, pair.first, pair.second);
+        for place in PLACEMENTS {
+            let input = Input::Pair(case, pair);
+            let call = Call { place, ..Call::new(Name::Better, input, pair.first.len()) };
+            let record = self.cases.lend(&[*case], place, &mut self.noise);
+            let (first, second, begins) = self.lend_pair(&pair, place);
+            // SAFETY: pointers and counts are those of the lent slices, and the record is a lent one.
+            let raw = self.made(&call, || unsafe {
+                let (one, other) = (first.pointer(), second.pointer().add(begins));
+                giqapsun_better(*record.pointer(), one, pair.first.len(), other, pair.second.len())
+            });
+            let (number, which, profit) = (raw.number, raw.which, raw.profit);
+            same(&call, Choice { number, which, profit }, outcome.in_numbers())?;
+            as_wanted(&call, "the first list", &first, &[])?;
+            as_wanted(&call, "the second list", &second, &[])?;
+            as_wanted(&call, "the case", &record, &[])?;
+        }
+        Ok(outcome)
+    }
+
+    /// Lends two lists, and says where in the memory of the second the list begins. In one memory, both are that
+    /// memory.
+    fn lend_pair(&mut self, pair: &Pair, place: Placement) -> (Lent<u16>, Lent<u16>, usize) {
+        match pair.begins {
+            None => {
+                let first = self.outputs.lend(pair.first, place, &mut self.noise);
+                (first, self.second.lend(pair.second, place, &mut self.noise), 0)
+            }
+            Some(begins) => {
+                let both = self.outputs.lend(&pair.joined(begins), place, &mut self.noise);
+                (both.clone(), both, begins)
+            }
+        }
     }
 
     /// Makes a call, says so on the board, and adds the time it took.

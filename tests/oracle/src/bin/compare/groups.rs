@@ -1,5 +1,6 @@
 //! The groups of comparisons. Each index of a group makes its own case from the seed.
 
+use crate::calls::Pair;
 use crate::run::Run;
 use oracle::answers::{self, Schedule, Verdict};
 use oracle::best::{by_commitment, every_list, Plan};
@@ -8,7 +9,11 @@ use oracle::damage::damaged_file;
 use oracle::days::{self, Answer, Question};
 use oracle::dp::best_list;
 use oracle::file;
+use oracle::known_pairs::{self, known_pairs};
 use oracle::lists::{any_list, wild_list};
+use oracle::pair;
+use oracle::pairs::{case_of_pairs, Pairs};
+use oracle::random::Rng;
 use oracle::refusals::WORKING_NUMBERS;
 use oracle::units::{full_day, long_day, longer_day, small_unit};
 use oracle::wild::{fill_past_counts, wild_record};
@@ -19,15 +24,17 @@ pub struct Group {
     pub count: u64,
     pub run: fn(&mut Run, u64),
     pub about: &'static str,
+    /// Whether a pair of every kind has to come up.
+    pub every_kind: bool,
 }
 
 /// A group of the list below.
 const fn group(name: &'static str, count: u64, run: fn(&mut Run, u64), about: &'static str) -> Group {
-    Group { name, count, run, about }
+    Group { name, count, run, about, every_kind: false }
 }
 
 /// All groups in the order in which they run.
-pub const GROUPS: [Group; 11] = [
+pub const GROUPS: [Group; 13] = [
     group("known-days", 13, known_day, "the known days, all calls, every list checked"),
     group("source-day", 2, source_day, "the source's day, once and twice over"),
     group("small-units", 20_000, small_units, "small units, every list tried"),
@@ -39,6 +46,8 @@ pub const GROUPS: [Group; 11] = [
     group("lengths", 2_000, lengths, "memory that is short, just enough, longer, none"),
     group("wild-records", 20_000, wild_records, "records at and past their limits"),
     group("entries-past-counts", 2_000, entries_past_counts, "random numbers past the counts of a record"),
+    group("known-pairs", known_pairs::COUNT, known_pair, "the known pairs of lists, apart and in one memory"),
+    Group { every_kind: true, ..group("pairs", 40_000, pairs, "eight pairs of lists of a case or record") },
 ];
 
 /// Most lists of a unit that are all put through the check.
@@ -46,6 +55,9 @@ const MOST_CHECKED: u64 = 300;
 
 /// Lists that each index of the group `lists` puts through the check.
 const LISTS_OF_A_CASE: usize = 10;
+
+/// Pairs that each index of the group `pairs` compares; the last one is in one memory.
+const PAIRS_OF_A_CASE: usize = 8;
 
 /// A verdict in the words of the known days.
 fn known_answer(verdict: &Verdict) -> Answer {
@@ -56,7 +68,7 @@ fn known_answer(verdict: &Verdict) -> Answer {
     }
 }
 
-/// A known day: the row's own answer, then all four calls.
+/// A known day: the row's own answer, then all five calls.
 fn known_day(run: &mut Run, index: u64) {
     let day = &days::known_days()[index as usize];
     let case = &day.case;
@@ -186,13 +198,17 @@ fn all_lengths(run: &mut Run, case: &Case, found: Option<Plan>) {
             run.note(result);
         }
     }
-    for count in [0, t - 1, t, t + 1, t + more, 1_000] {
-        let list: Vec<u16> = (0..count).map(|_| rng.between16(0, case.capacity)).collect();
-        run.check(case, &list);
+    let lists = [0, t - 1, t, t + 1, t + more, 1_000]
+        .map(|count| (0..count).map(|_| rng.between16(0, case.capacity)).collect::<Vec<u16>>());
+    for list in &lists {
+        run.check(case, list);
+        run.better(case, Pair::apart(list, &lists[2]));
+        run.better(case, Pair::apart(&lists[2], list));
+        run.better(case, Pair::apart(list, list));
     }
 }
 
-/// A record with fields and counts at and past their limits, through all three calls that take one,
+/// A record with fields and counts at and past their limits, through all four calls that take one,
 /// in memory of random length.
 fn wild_records(run: &mut Run, _index: u64) {
     let mut rng = run.rng();
@@ -204,6 +220,7 @@ fn wild_records(run: &mut Run, _index: u64) {
     let list = wild_list(&mut rng, &case);
     let result = run.memory.check(&case, &list).map(|_| ());
     run.note(result);
+    run.better(&case, Pair::apart(&list, &list));
     let working_numbers = rng.pick(&[0, 8_191, 8_192, 8_192, 8_192, 8_192, 8_193]);
     let outputs = rng.pick(&[t, t, t, t, t + 1, t.saturating_sub(1), 0]);
     let expected = answers::schedule(&case, working_numbers, outputs, best_list);
@@ -224,12 +241,62 @@ fn entries_past_counts(run: &mut Run, _index: u64) {
     let list = any_list(&mut rng, &clean);
     let result = run.memory.check(&case, &list).map(|_| ());
     run.note(result);
+    run.independent(
+        &case,
+        &pair::choice(&case, &list, &expected.list),
+        &pair::choice(&clean, &list, &expected.list),
+    );
+    run.better(&case, Pair::apart(&list, &expected.list));
     let result = run.memory.write(&case, answers::writing(&clean, usize::MAX).bytes.len());
     run.note(result);
 }
 
+/// A known pair: the row's own answer, then the lists apart; and the first one in one memory with itself.
+fn known_pair(run: &mut Run, index: u64) {
+    let row = &known_pairs()[index as usize];
+    run.independent(&row.case, &pair::choice(&row.case, &row.first, &row.second), &row.choice);
+    run.better(&row.case, Pair::apart(&row.first, &row.second));
+    run.better(&row.case, Pair::in_one(&row.first, row.first.len(), 0));
+}
+
+/// Random pairs of one case, or once in eight times of one record; the last one in one memory.
+fn pairs(run: &mut Run, _index: u64) {
+    let mut rng = run.rng();
+    if rng.once_in(8) {
+        return wild_pairs(run, &mut rng);
+    }
+    let case = case_of_pairs(&mut rng);
+    let pairs = Pairs::new(&mut rng, &case);
+    for _ in 1..PAIRS_OF_A_CASE {
+        let (first, second) = pairs.pair(&mut rng);
+        run.better(&case, Pair::apart(&first, &second));
+    }
+    let list = pairs.one(&mut rng);
+    pair_in_one(run, &case, list, &mut rng);
+}
+
+/// Random pairs of one record at and past its limits.
+fn wild_pairs(run: &mut Run, rng: &mut Rng) {
+    let case = wild_record(rng);
+    for _ in 1..PAIRS_OF_A_CASE {
+        let (first, second) = (wild_list(rng, &case), wild_list(rng, &case));
+        run.better(&case, Pair::apart(&first, &second));
+    }
+    let list = wild_list(rng, &case);
+    pair_in_one(run, &case, list, rng);
+}
+
+/// A list in the same memory twice, or overlapping the list that begins a few outputs after it and is as long.
+fn pair_in_one(run: &mut Run, case: &Case, mut list: Vec<u16>, rng: &mut Rng) {
+    let count = list.len();
+    let begins = rng.pick(&[0, 0, 1, 1, 2, count]).min(count);
+    let last = list.last().copied().unwrap_or(0);
+    list.resize(count + begins, last);
+    run.better(case, Pair::in_one(&list, count, begins));
+}
+
 /// Runs one file again: reading, and if it is accepted, all calls, lengths and many lists.
-pub fn one_file(run: &mut Run, bytes: &[u8], list: Option<&[u16]>) {
+pub fn one_file(run: &mut Run, bytes: &[u8], list: Option<&[u16]>, second: Option<&[u16]>) {
     let result = run.memory.read(bytes);
     run.note(result);
     let Ok(case) = file::read(bytes) else {
@@ -251,5 +318,10 @@ pub fn one_file(run: &mut Run, bytes: &[u8], list: Option<&[u16]>) {
     if let Some(list) = list {
         println!("expected {:?}", answers::verdict(&case, list));
         run.check(&case, list);
+        run.better(&case, Pair::in_one(list, list.len(), 0));
+    }
+    if let (Some(first), Some(second)) = (list, second) {
+        println!("expected {:?}", pair::choice(&case, first, second));
+        run.better(&case, Pair::apart(first, second));
     }
 }

@@ -104,6 +104,7 @@ impl Region {
 }
 
 /// A slice while it is lent, with what it held before.
+#[derive(Clone)]
 pub struct Lent<N> {
     start: *mut N,
     lent: Vec<N>,

@@ -1,7 +1,7 @@
 //! Compares the library with the independent scheduler: every answer and every lent number.
 //!
 //! compare [--seed N] [--groups NAME,NAME.. [--index N]] [--limit SECONDS]
-//! compare --case FILE [--list OUTPUT,OUTPUT..] [--limit SECONDS]
+//! compare --case FILE [--list OUTPUT,OUTPUT.. [--second OUTPUT,OUTPUT..]] [--limit SECONDS]
 //! compare --groups
 
 mod board;
@@ -9,6 +9,7 @@ mod boundary;
 mod calls;
 mod groups;
 mod guard;
+mod kinds;
 mod report;
 mod run;
 mod watch;
@@ -16,6 +17,7 @@ mod wishes;
 
 use board::{Board, Tally};
 use groups::{one_file, GROUPS};
+use kinds::missing;
 use report::{show, show_outside, Source};
 use run::{remark, Run, MOST_SHOWN};
 use std::ops::Range;
@@ -33,6 +35,8 @@ struct Series<'a> {
     seed: u64,
     indices: Range<u64>,
     limit: Duration,
+    /// Whether a pair of every kind has to come up, if the series is not stopped.
+    every_kind: bool,
     compare: &'a dyn Fn(&mut Run, u64),
     source: &'a dyn Fn(u64) -> Source,
 }
@@ -82,10 +86,21 @@ impl Series<'_> {
         }
     }
 
+    /// Prints and counts the kinds of pairs that never came up.
+    fn tell_missing(&self, tally: &mut Tally) {
+        for kind in missing(&tally.pairs) {
+            println!("MISSING {}: no pair of the kind: {kind}", self.name);
+            tally.failed += 1;
+        }
+    }
+
     /// Runs the series and prints its line; gives what passed and failed.
     fn run_and_sum_up(&self) -> (u64, u64) {
         let begun = Instant::now();
-        let (tally, stopped) = self.run();
+        let (mut tally, stopped) = self.run();
+        if self.every_kind && stopped.is_none() {
+            self.tell_missing(&mut tally);
+        }
         let (all, library) = (begun.elapsed().as_secs_f64(), tally.library_time as f64 / 1e9);
         let (name, seed, passed, failed) = (self.name, self.seed, tally.passed, tally.failed);
         let shown = if failed > 0 { format!(" ({} shown)", tally.shown) } else { String::new() };
@@ -98,13 +113,15 @@ impl Series<'_> {
 
 /// Runs one file again.
 fn run_case(wishes: &Wishes, path: &std::path::Path, bytes: &[u8]) -> (u64, u64) {
-    let source = |_| Source::of_file(path, bytes, wishes.list.as_deref());
+    let (list, second) = (wishes.list.as_deref(), wishes.second.as_deref());
+    let source = |_| Source::of_file(path, bytes, list, second);
     Series {
         name: "case",
         seed: wishes.seed,
         indices: 0..1,
         limit: wishes.limit,
-        compare: &|run, _| one_file(run, bytes, wishes.list.as_deref()),
+        every_kind: false,
+        compare: &|run, _| one_file(run, bytes, list, second),
         source: &source,
     }
     .run_and_sum_up()
@@ -120,6 +137,7 @@ fn run_groups(wishes: &Wishes) -> (u64, u64) {
             seed: wishes.seed.wrapping_add(place as u64),
             indices: wishes.index.map_or(0..group.count, |index| index..index + 1),
             limit: wishes.limit,
+            every_kind: group.every_kind && wishes.index.is_none(),
             compare: &group.run,
             source: &|index| Source::of_index(group.name, wishes.seed, index),
         };

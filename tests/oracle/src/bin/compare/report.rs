@@ -27,9 +27,10 @@ impl Source {
         Source { again, name: format!("{group}-{index}"), given: None }
     }
 
-    /// A file, and a list to check.
-    pub fn of_file(path: &Path, bytes: &[u8], list: Option<&[u16]>) -> Source {
-        let again = format!("--case {}{}", quoted(path), list.map_or(String::new(), list_words));
+    /// A file, a list to check, and one to compare it with.
+    pub fn of_file(path: &Path, bytes: &[u8], list: Option<&[u16]>, second: Option<&[u16]>) -> Source {
+        let (list, second) = (option_words("--list", list), option_words("--second", second));
+        let again = format!("--case {}{list}{second}", quoted(path));
         Source { again, name: "case".to_string(), given: Some((path.to_path_buf(), bytes.to_vec())) }
     }
 }
@@ -47,18 +48,21 @@ pub fn show(source: &Source, call: &Call, difference: &str) {
     println!("{difference}");
     let case = match call.input {
         Input::File(bytes) => kept(source, call.name, bytes),
-        Input::Case(case) | Input::List(case, _) => kept_case(source, call.name, case),
+        Input::Case(case) | Input::List(case, _) | Input::Pair(case, _) => kept_case(source, call.name, case),
     };
-    if let Input::List(_, list) = call.input {
-        println!("  list      {}", numbers(list));
-    }
+    let (list, second) = match call.input {
+        Input::File(_) | Input::Case(_) => (None, None),
+        Input::List(_, list) => (Some(list), None),
+        Input::Pair(_, pair) => (Some(pair.first), Some(pair.second)),
+    };
+    list.iter().for_each(|list| println!("  list      {}", numbers(list)));
+    second.iter().for_each(|list| println!("  second    {}", numbers(list)));
     println!("  again     {} {}", program(), source.again);
     if let (Some(path), None) = (case, &source.given) {
-        let list = match call.input {
-            Input::List(_, list) if list.len() <= MOST_LISTED => list_words(list),
-            _ => String::new(),
-        };
-        println!("  alone     {} --case {}{list}", program(), quoted(&path));
+        let few = |list: &&[u16]| list.len() <= MOST_LISTED;
+        let (list, second) = (list.filter(few), second.filter(few));
+        let (list, second) = (option_words("--list", list), option_words("--second", second));
+        println!("  alone     {} --case {}{list}{second}", program(), quoted(&path));
     }
 }
 
@@ -102,9 +106,9 @@ fn saved(name: &str, bytes: &[u8]) -> Option<PathBuf> {
     Some(path)
 }
 
-/// A list as words of the command line.
-fn list_words(list: &[u16]) -> String {
-    format!(" --list {}", numbers(list))
+/// A list as words of the command line, if there is one.
+fn option_words(option: &str, list: Option<&[u16]>) -> String {
+    list.map_or(String::new(), |list| format!(" {option} {}", numbers(list)))
 }
 
 /// Outputs with commas between; `none` for a list of none.

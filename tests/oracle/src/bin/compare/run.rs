@@ -1,7 +1,8 @@
 //! A run of comparisons: what it counts, and which differences it prints.
 
 use crate::board::{Board, Tally};
-use crate::calls::{Call, Difference, Input, Memory, Name};
+use crate::calls::{Call, Difference, Input, Memory, Name, Pair};
+use crate::kinds::{counted, Met};
 use crate::report::{show, Source};
 use oracle::answers::{self, Schedule, Verdict};
 use oracle::best::Plan;
@@ -65,7 +66,7 @@ impl Run {
     fn tell(&mut self, difference: &Difference) {
         let case = match difference.call.input {
             Input::File(bytes) => format!("{bytes:?}"),
-            Input::Case(case) | Input::List(case, _) => format!("{case:?}"),
+            Input::Case(case) | Input::List(case, _) | Input::Pair(case, _) => format!("{case:?}"),
         };
         let about = (difference.call.name, case);
         if self.tally.shown < MOST_SHOWN && !self.told.contains(&about) {
@@ -103,6 +104,15 @@ impl Run {
         }
     }
 
+    /// Compares the comparison of two lists, and counts the kinds of the pair.
+    pub fn better(&mut self, case: &Case, pair: Pair) {
+        let result = self.memory.better(case, pair);
+        if let Ok(outcome) = result {
+            Met { case, pair, outcome }.count(&mut self.tally.pairs);
+        }
+        self.note(result.map(|_| ()));
+    }
+
     /// Compares the search in just enough memory.
     pub fn best(&mut self, case: &Case, expected: &Schedule) {
         self.tally.refusals[expected.number as usize] += 1;
@@ -119,16 +129,20 @@ impl Run {
         self.note(result);
     }
 
-    /// Compares all four calls on a case within the limits whose best list is known, with a few lists.
+    /// Compares all five calls on a case within the limits whose best list is known, with a few lists.
     pub fn whole_case(&mut self, case: &Case, found: Option<Plan>, rng: &mut Rng) {
         self.file(case);
         let expected = answers::schedule(case, WORKING_NUMBERS, case.t, |_| found);
         self.best(case, &expected);
-        let mut list = if expected.number == 0 { expected.list } else { walk(rng, case) };
+        let list = if expected.number == 0 { expected.list } else { walk(rng, case) };
         self.check(case, &list);
-        disturb(rng, case, &mut list);
-        self.check(case, &list);
-        self.check(case, &any_list(rng, case));
+        let mut disturbed = list.clone();
+        disturb(rng, case, &mut disturbed);
+        self.check(case, &disturbed);
+        let any = any_list(rng, case);
+        self.check(case, &any);
+        self.better(case, Pair::apart(&list, &disturbed));
+        self.better(case, Pair::apart(&any, &list));
     }
 }
 
@@ -142,6 +156,9 @@ pub fn remark(tally: &Tally) -> String {
         let by_rule = RULES.iter().map(|&rule| tally.breaches[rule as usize]).collect::<Vec<_>>();
         text += &format!("\n  lists passed: {}, broken by rule {RULES:?}: {by_rule:?}", tally.breaches[0]);
         text += &format!(", at hour 0: {}", tally.at_hour_0);
+    }
+    if tally.pairs.iter().any(|&count| count > 0) {
+        text += &format!("\n  pairs: {}", counted(&tally.pairs));
     }
     text
 }

@@ -7,10 +7,11 @@ use std::time::Duration;
 /// How to call this program.
 pub const USAGE: &str = "\
 usage: compare [--seed N] [--groups NAME,NAME.. [--index N]] [--limit SECONDS]
-       compare --case FILE [--list OUTPUT,OUTPUT..] [--limit SECONDS]
+       compare --case FILE [--list OUTPUT,OUTPUT.. [--second OUTPUT,OUTPUT..]] [--limit SECONDS]
        compare --groups
-The second runs one case, with a list to check if one is named; the third lists the groups. A call that takes
-longer than the limit, 10 s if none is named, is a difference. Status 1: something differs.";
+The second runs one case, with a list to check if one is named, and a second one to compare it with; the third lists
+the groups. A call that takes longer than the limit, 10 s if none is named, is a difference. Status 1: something
+differs, or a kind of pairs has not come up.";
 
 /// Seed of the first group; each next group has the next number.
 const SEED: u64 = 0x9109_a500;
@@ -29,6 +30,7 @@ pub struct Wishes {
     /// A file and its bytes.
     pub case: Option<(PathBuf, Vec<u8>)>,
     pub list: Option<Vec<u16>>,
+    pub second: Option<Vec<u16>>,
 }
 
 /// Reads the command line; what is wrong with it, in a line.
@@ -41,6 +43,7 @@ pub fn wishes(words: impl Iterator<Item = String>) -> Result<Wishes, String> {
         limit: Duration::from_secs(LIMIT),
         case: None,
         list: None,
+        second: None,
     };
     let mut words = words.peekable();
     while let Some(word) = words.next() {
@@ -52,9 +55,13 @@ pub fn wishes(words: impl Iterator<Item = String>) -> Result<Wishes, String> {
             "--index" => wishes.index = Some(number(&word, &value)?),
             "--limit" => wishes.limit = Duration::from_secs(number(&word, &value)?.max(1)),
             "--case" => wishes.case = Some(contents(&value)?),
-            "--list" => wishes.list = Some(outputs(&value)?),
+            "--list" => wishes.list = Some(outputs(&word, &value)?),
+            "--second" => wishes.second = Some(outputs(&word, &value)?),
             _ => return Err(format!("{word} is no option")),
         }
+    }
+    if wishes.second.is_some() && wishes.list.is_none() {
+        return Err("--second asks for a --list to be compared with".to_string());
     }
     match wishes.index {
         Some(index) if wishes.groups.iter().any(|&place| index >= GROUPS[place].count) => {
@@ -87,9 +94,9 @@ fn contents(name: &str) -> Result<(PathBuf, Vec<u8>), String> {
 }
 
 /// Outputs with commas between; `none` is a list of none.
-fn outputs(text: &str) -> Result<Vec<u16>, String> {
+fn outputs(option: &str, text: &str) -> Result<Vec<u16>, String> {
     let words = text.split(',').filter(|_| text != "none");
-    words.map(|word| word.trim().parse().map_err(|_| format!("--list: '{word}' is no output"))).collect()
+    words.map(|word| word.trim().parse().map_err(|_| format!("{option}: '{word}' is no output"))).collect()
 }
 
 /// A line of the list of groups.
