@@ -2,7 +2,7 @@
 # there that is wrong in the way that the variable WRONG names when it runs.
 wrong_library() {
     local renamed=() call
-    for call in read write check best; do
+    for call in read write check best better; do
         renamed+=(--redefine-sym "giqapsun_${call}_1=right_${call}")
     done
     mkdir -p "$1"
