@@ -3,9 +3,11 @@
  *   as a file, up to the end that its pairs name, and the rest as outputs of a list to check;
  *   as a record, byte for byte, with counts and numbers of any size;
  *   as a record brought within the limits, so that every input is also searched.
+ * Of each accepted case pairs of lists are compared too: its best list, the best one at the prices in reverse, near
+ * misses and the input's own numbers, at its own prices and at prices that leave no margin, where lists earn the same.
  * Every answer is compared with that of the independent scheduler of tests/oracle; its search is left out on
  * large days, where it takes too long. Whatever the answers have to agree in among themselves is tested too.
- * Any difference aborts.
+ * Any difference aborts. The last line says how often each outcome of a pair came up.
  */
 #include "giqapsun.h"
 #include <stdio.h>
@@ -28,6 +30,8 @@ struct giqapsun_reading oracle_read(const uint8_t *file, size_t n);
 struct giqapsun_written oracle_write(struct giqapsun_case c, uint8_t *bytes, size_t n);
 struct giqapsun_verdict oracle_check(struct giqapsun_case c, const uint16_t *list, size_t n);
 struct giqapsun_plan oracle_best(struct giqapsun_case c, size_t n, uint16_t *outputs, size_t m);
+struct giqapsun_choice oracle_better(struct giqapsun_case c, const uint16_t *first, size_t n, const uint16_t *second,
+                                     size_t m);
 
 /* Hours times outputs up to which the independent search is asked. */
 #define SEARCHED 2000
@@ -155,6 +159,104 @@ static struct giqapsun_verdict checked(struct giqapsun_case c, const uint16_t *l
     return verdict;
 }
 
+/* Pairs by their outcome. */
+static struct {
+    unsigned long refused, neither, alone, profit, tie, identical;
+} met;
+
+static void print_met(void)
+{
+    fprintf(stderr, "pairs: refused %lu, neither passes %lu, one passes %lu, ", met.refused, met.neither, met.alone);
+    fprintf(stderr, "higher profit %lu, tie %lu, identical %lu\n", met.profit, met.tie, met.identical);
+}
+
+/* giqapsun_better, compared, with both lists compared and the answer's form tested. */
+static struct giqapsun_choice chosen(struct giqapsun_case c, const uint16_t *first, size_t n, const uint16_t *second,
+                                     size_t m)
+{
+    uint16_t first_before[GIQAPSUN_HOURS + 1], second_before[GIQAPSUN_HOURS + 1];
+    memcpy(first_before, first, n * sizeof *first);
+    memcpy(second_before, second, m * sizeof *second);
+    struct giqapsun_choice choice = giqapsun_better(c, first, n, second, m);
+    HOLDS(memcmp(first_before, first, n * sizeof *first) == 0);
+    HOLDS(memcmp(second_before, second, m * sizeof *second) == 0);
+    struct giqapsun_choice expected = oracle_better(c, first, n, second, m);
+    HOLDS(choice.number == expected.number && choice.which == expected.which && choice.profit == expected.profit);
+    HOLDS(choice.which <= 2 && (choice.number == 0 || choice.which == 0));
+    HOLDS(choice.which != 0 || choice.profit == 0);
+    met.refused += choice.number != 0;
+    return choice;
+}
+
+/* Two lists of T outputs, both ways round, beside what the check says of each. */
+static void try_pair(struct giqapsun_case c, const uint16_t *first, const uint16_t *second)
+{
+    struct giqapsun_verdict one = checked(c, first, c.hours), other = checked(c, second, c.hours);
+    struct giqapsun_choice choice = chosen(c, first, c.hours, second, c.hours);
+    struct giqapsun_choice swapped = chosen(c, second, c.hours, first, c.hours);
+    int identical = memcmp(first, second, c.hours * sizeof *first) == 0;
+    HOLDS(choice.number == 0 && swapped.number == 0 && choice.profit == swapped.profit);
+    if (one.rule != 0 && other.rule != 0) {
+        HOLDS(choice.which == 0 && swapped.which == 0);
+        met.neither++;
+        return;
+    }
+    HOLDS(choice.profit == (choice.which == 1 ? one : other).profit);
+    HOLDS(swapped.which == (identical ? 1 : 3 - choice.which));
+    if (one.rule != 0 || other.rule != 0)
+        met.alone++;
+    else if (one.profit != other.profit)
+        met.profit++;
+    else if (!identical)
+        met.tie++;
+    else
+        met.identical++;
+}
+
+/* The case with prices that leave no margin and on-line hours that cost nothing; starts and stops cost something or
+   nothing. */
+static struct giqapsun_case without_margin(struct giqapsun_case c, struct bytes *rest)
+{
+    c.variable = c.variable < UINT16_MAX ? c.variable : UINT16_MAX;
+    c.fixed = 0;
+    if (take8(rest) % 2 == 0)
+        c.startcost = c.stopcost = 0;
+    for (size_t k = 0; k < c.hours; k++)
+        c.prices[k] = (uint16_t)c.variable;
+    return c;
+}
+
+/* Fills the best list at the prices in reverse: it keeps the rules, in which no price stands. */
+static void best_in_reverse(struct giqapsun_case c, uint16_t *list)
+{
+    struct giqapsun_case reverse = c;
+    for (size_t k = 0; k < c.hours; k++)
+        reverse.prices[k] = c.prices[c.hours - 1 - k];
+    HOLDS(best_in(reverse, GIQAPSUN_WORK, c.hours).number == 0);
+    memcpy(list, outputs + MARGIN, c.hours * sizeof *list);
+}
+
+/* Pairs of an accepted case: its best list, if there is one, and a list of any outputs, with an output more each. */
+static void try_pairs(struct giqapsun_case c, const uint16_t *best, const uint16_t *list, int found, struct bytes *rest)
+{
+    uint16_t other[GIQAPSUN_HOURS + 1] = {0}, near[GIQAPSUN_HOURS + 1];
+    if (found)
+        best_in_reverse(c, other);
+    memcpy(near, take8(rest) % 2 == 0 ? best : other, sizeof near);
+    near[within(rest, 1, (unsigned)c.hours) - 1] = within(rest, 0, c.capacity);
+    struct giqapsun_case days[2] = {c, without_margin(c, rest)};
+    for (int day = 0; day < 2; day++) {
+        try_pair(days[day], best, other);
+        try_pair(days[day], best, near);
+        try_pair(days[day], near, other);
+        try_pair(days[day], near, list);
+        try_pair(days[day], near, near);
+    }
+    HOLDS(chosen(c, best, c.hours, other, c.hours - 1).number == 9);
+    HOLDS(chosen(c, best, c.hours + 1, other, c.hours).number == 9);
+    HOLDS(chosen(c, best, 0, other, c.hours + 1).number == 9);
+}
+
 /* A list that passes is not better than the best one. */
 static void not_better(struct giqapsun_case c, const uint16_t *list, struct giqapsun_plan plan,
                        const uint16_t *best)
@@ -188,7 +290,7 @@ static void try_accepted(struct giqapsun_case c, const uint8_t *bytes, size_t n,
 
     struct giqapsun_plan plan = best_as_expected(c, GIQAPSUN_WORK, c.hours);
     HOLDS(plan.number == 0 || plan.number == 11);
-    uint16_t best[GIQAPSUN_HOURS] = {0}, list[GIQAPSUN_HOURS + 1] = {0};
+    uint16_t best[GIQAPSUN_HOURS + 1] = {0}, list[GIQAPSUN_HOURS + 1] = {0};
     if (plan.number == 0) {
         memcpy(best, outputs + MARGIN, c.hours * sizeof *best);
         struct giqapsun_verdict verdict = checked(c, best, c.hours);
@@ -211,6 +313,7 @@ static void try_accepted(struct giqapsun_case c, const uint8_t *bytes, size_t n,
     not_better(c, list, plan, best);
     HOLDS(checked(c, list, c.hours - 1).number == 9);
     HOLDS(checked(c, list, c.hours + 1).number == 9);
+    try_pairs(c, best, list, plan.number == 0, rest);
 }
 
 /* The bytes of a file. */
@@ -233,6 +336,7 @@ static void try_record(struct giqapsun_case c, struct bytes *rest)
     if (w.number != 0) {
         HOLDS(w.number >= 2 && w.number <= 8);
         HOLDS(checked(c, list, GIQAPSUN_HOURS).number == w.number);
+        HOLDS(chosen(c, list, GIQAPSUN_HOURS, list, 0).number == w.number);
         HOLDS(best_in(c, GIQAPSUN_WORK, GIQAPSUN_HOURS).number == w.number);
         return;
     }
@@ -289,6 +393,9 @@ static struct giqapsun_case within_limits(struct bytes *bytes)
 
 int LLVMFuzzerTestOneInput(const uint8_t *data, size_t size)
 {
+    static int begun;
+    if (!begun)
+        begun = atexit(print_met) == 0;
     state = 0x9e3779b97f4a7c15u;
     for (size_t i = 0; i < size; i++)
         state = (state ^ data[i]) * 0x100000001b3u;

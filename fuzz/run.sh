@@ -43,4 +43,4 @@ if [ $status -ne 0 ]; then
     exit 1
 fi
 executions=$(sed -n 's/^stat::number_of_executed_units: *//p' "$folder/log")
-echo "fuzz: $executions executions in $seconds seconds, no difference"
+echo "fuzz: $executions executions in $seconds seconds, no difference; $(grep '^pairs: ' "$folder/log")"
