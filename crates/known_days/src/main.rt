@@ -1,6 +1,6 @@
-// The days whose answers are known from outside: the twelve of the scope on its small unit, pairs of lists on that unit,
-// and the days of the source, whose case is read from standard input. Prints one line for each: what was asked, and the
-// answer of best::schedule, of rules::check, or of offers::compare with the part that offers::better hands back.
+// The days whose answers are known from outside: the twelve of the scope on its small unit, pairs of lists on that
+// unit, and the days of the source, whose case is read from standard input. Prints one line for each: what was asked,
+// and the answer of best::schedule, of rules::check, or of offers::compare with the part of offers::better.
 use libc::STDIN_FILENO;
 use libc::STDOUT_FILENO;
 use model::Case;
@@ -190,28 +190,32 @@ fn print_ordered() {
     print_best(b"12", small(Output(0), Hour(2), Hour(1), 4, 10, orders));
 }
 
-// An hour of the unit at 2 MW, at this price.
-fn hour(price: u16) -> Reading {
-    small(Output(2), Hour(2), Hour(1), 1, price, [0u8; HOURS])
+// An hour of the unit at 2 MW, at a price of F and above it.
+fn level() -> Reading {
+    small(Output(2), Hour(2), Hour(1), 1, 10, [0u8; HOURS])
+}
+
+fn dear() -> Reading {
+    small(Output(2), Hour(2), Hour(1), 1, 12, [0u8; HOURS])
 }
 
 // One list passes; both do, and the higher profit, or the lower output, wins; identical lists; neither passes.
 fn print_pairs() {
-    print_better(b"one passes", hour(10), &[2u16], &[4u16]);
-    print_better(b"the other passes", hour(12), &[4u16], &[3u16]);
-    print_better(b"3 earns more", hour(12), &[3u16], &[2u16]);
-    print_better(b"3 earns more", hour(12), &[2u16], &[3u16]);
-    print_better(b"equal profit", hour(10), &[2u16], &[3u16]);
-    print_better(b"equal profit", hour(10), &[3u16], &[2u16]);
-    print_better(b"identical", hour(10), &[2u16], &[2u16]);
-    print_better(b"neither passes", hour(10), &[4u16], &[1u16]);
+    print_better(b"one passes", level(), &[2u16], &[4u16]);
+    print_better(b"the other passes", dear(), &[4u16], &[3u16]);
+    print_better(b"3 earns more", dear(), &[3u16], &[2u16]);
+    print_better(b"3 earns more", dear(), &[2u16], &[3u16]);
+    print_better(b"equal profit", level(), &[2u16], &[3u16]);
+    print_better(b"equal profit", level(), &[3u16], &[2u16]);
+    print_better(b"identical", level(), &[2u16], &[2u16]);
+    print_better(b"neither passes", level(), &[4u16], &[1u16]);
 }
 
 // A first and a second list of another length; and a case that is refused, which comes before 9.
 fn print_refused_pairs() {
     let case = small(Output(1), Hour(2), Hour(1), 1, 10, [0u8; HOURS]);
-    print_better(b"first of 2 outputs", hour(10), &[2u16, 2], &[2u16]);
-    print_better(b"second of 2 outputs", hour(10), &[2u16], &[2u16, 2]);
+    print_better(b"first of 2 outputs", level(), &[2u16, 2], &[2u16]);
+    print_better(b"second of 2 outputs", level(), &[2u16], &[2u16, 2]);
     print_better(b"refused case", case, &[2u16, 2], &[2u16]);
 }
 
