@@ -5,9 +5,8 @@ use Rattle.model.specs.declared.Written.{Written}
 use Rattle.model.specs.declared.Verdict.{Verdict}
 use Rattle.model.specs.declared.Plan.{Plan}
 use Rattle.model.specs.declared.Comparison.{Comparison}
-use Rattle.model.specs.Answers.{outcomeNumber, writtenNumber, writtenLength}
-use Rattle.model.specs.Answers.{verdictNumber, verdictHour, verdictRule, verdictProfit, planNumber, planProfit}
-use Rattle.model.specs.Compared.{comparisonNumber, comparisonWhich, comparisonProfit}
+use Rattle.model.specs.Answers.{outcomeNumber, writtenNumbers, verdictNumbers, planNumbers}
+use Rattle.model.specs.Compared.{comparisonNumbers}
 use Rattle.giqapsun.specs.declared.GiqapsunReading.{GiqapsunReading}
 use Rattle.giqapsun.specs.declared.GiqapsunWritten.{GiqapsunWritten}
 use Rattle.giqapsun.specs.declared.GiqapsunVerdict.{GiqapsunVerdict}
@@ -18,20 +17,24 @@ abbrev pub readingOut : Reading → GiqapsunReading
 readingOut r = record { number = outcomeNumber (r .outcome); case = r .case }
 
 abbrev pub writtenOut : Written → GiqapsunWritten
-writtenOut w = record { number = writtenNumber w; length = writtenLength w }
+writtenOut w = record { number = writtenNumbers w .0; length = writtenNumbers w .1 }
 
 abbrev pub verdictOut : Verdict → GiqapsunVerdict
 verdictOut v =
     record {
-      number = verdictNumber v;
-      hour = verdictHour v;
-      rule = verdictRule v;
-      profit = record { 0 = verdictProfit v };
+      number = verdictNumbers v .0;
+      hour = verdictNumbers v .1;
+      rule = verdictNumbers v .2;
+      profit = record { 0 = verdictNumbers v .3 };
     }
 
 abbrev pub planOut : Plan → GiqapsunPlan
-planOut p = record { number = planNumber p; profit = record { 0 = planProfit p } }
+planOut p = record { number = planNumbers p .0; profit = record { 0 = planNumbers p .1 } }
 
 abbrev pub choiceOut : Comparison → GiqapsunChoice
 choiceOut x =
-    record { number = comparisonNumber x; which = comparisonWhich x; profit = record { 0 = comparisonProfit x } }
+    record {
+      number = comparisonNumbers x .0;
+      which = comparisonNumbers x .1;
+      profit = record { 0 = comparisonNumbers x .2 };
+    }

@@ -1,5 +1,5 @@
 -- Two lists side by side: what their verdicts settle, and by it the promises of the comparison. Assumes nothing.
-use mathlib.Core.Path.{_≡_, refl, sym, _∙_, subst}
+use mathlib.Core.Path.{_≡_, refl, sym, ap, _∙_, subst}
 use mathlib.Core.Logic.{_⊎_, inl, inr, _↔_}
 use mathlib.Core.Bool.{Bool, true, false, cond}
 use mathlib.Core.List.{List}
@@ -23,10 +23,9 @@ use Rattle.model.specs.Best.{leads}
 use Rattle.model.specs.Layout.{zeroed}
 use Rattle.model.specs.Refusals.{refusalOf}
 use Rattle.model.specs.Answers.{checkOf}
-use Rattle.model.specs.Compared.{preferred, comparedOf}
+use Rattle.model.specs.Compared.{preferred, comparedOf, comparisonNumbers}
 use Rattle.model.specs.Published.{Counts}
 use Rattle.model.specs.Words.{Beaten}
-use Rattle.model.specs.Promises.{Offers}
 use Rattle.model.proofs.LimitsLaws.{passed-of-refusalOf}
 use Rattle.model.proofs.KeepsLaws.{kept-length}
 use Rattle.model.proofs.CheckLaws.{checkOf-outside}
@@ -84,12 +83,10 @@ unfolding comparedOf
 comparedOf-by o c l m d e = rw (d, e)
 
 -- ---- what is offered, by the papers' number and values
-refused-offers : (n : ℕ) → Offers (NotCompared n) n 0 (pos 0)
-refused-offers n = record { number = refl; which = refl; profit = refl }
-
-pub unread-comparison : (c : Case) (l m : List ℕ) (n : ℕ) → Offers (comparedOf (Refused n) c l m) n 0 (pos 0)
+pub unread-comparison : (c : Case) (l m : List ℕ) (n : ℕ)
+    → comparisonNumbers (comparedOf (Refused n) c l m) ≡ (n, 0, pos 0)
 unfolding comparedOf checkOf
-unread-comparison c l m n = refused-offers n
+unread-comparison c l m n = refl
 
 -- a case outside the limits
 pub comparedOf-outside : (c : Case) (l m : List ℕ) → (refusalOf c ≡ 0 → ⊥)
@@ -98,14 +95,14 @@ unfolding comparedOf
 comparedOf-outside c l m h = rw (checkOf-outside c l h)
 
 pub refused-comparison : (c : Case) (l m : List ℕ) → (refusalOf c ≡ 0 → ⊥)
-    → Offers (comparedOf Accepted c l m) (refusalOf c) 0 (pos 0)
-refused-comparison c l m h = rw (comparedOf-outside c l m h) (refused-offers (refusalOf c))
+    → comparisonNumbers (comparedOf Accepted c l m) ≡ (refusalOf c, 0, pos 0)
+refused-comparison c l m h = ap comparisonNumbers (comparedOf-outside c l m h)
 
 module _ (c : Case) (l m : List ℕ) (e : refusalOf c ≡ 0) where
   -- each way by what is settled
   pub first-offered : length m ≡ last c
       → (T (keeps c l) × (T (keeps c m) → (m ≡ l) ⊎ Beaten (profitOf c) l m))
-      ↔ Offers (comparedOf Accepted c l m) 0 1 (profitOf c l)
+      ↔ (comparisonNumbers (comparedOf Accepted c l m) ≡ (0, 1, profitOf c l))
   first-offered h = (to (settled c l m e), from (settled c l m e))
     where
       led-by : T (keeps c l) → (m ≡ l) ⊎ Beaten (profitOf c) l m → (m ≡ l) ⊎ T (leads (profitOf c) l m)
@@ -117,72 +114,75 @@ module _ (c : Case) (l m : List ℕ) (e : refusalOf c ≡ 0) where
       beats k (inr t) = inr (leading (profitOf c) l m (kept-length c l k ∙ sym h) .0 t)
 
       to : {x : Comparison} → Settled c l m x → (T (keeps c l) × (T (keeps c m) → (m ≡ l) ⊎ Beaten (profitOf c) l m))
-          → Offers x 0 1 (profitOf c l)
-      to (first k g f) w = record { number = refl; which = refl; profit = refl }
+          → comparisonNumbers x ≡ (0, 1, profitOf c l)
+      to (first k g f) w = refl
       to (second j g f) (k, w) = absurd (leads-behind (profitOf c) l m (f k) (led-by k (w j)))
       to (neither n o g i) (k, w) = absurd (n k)
       to (short n) (k, w) = absurd (fails n (kept-length c l k) h)
 
-      from : {x : Comparison} → Settled c l m x → Offers x 0 1 (profitOf c l)
+      from : {x : Comparison} → Settled c l m x → comparisonNumbers x ≡ (0, 1, profitOf c l)
           → T (keeps c l) × (T (keeps c m) → (m ≡ l) ⊎ Beaten (profitOf c) l m)
       from (first k g f) w = (k, λ j. beats k (f j))
-      from (second j g f) w = absurd (let q = w .which in omega arith)
-      from (neither n o g i) w = absurd (let q = w .which in omega arith)
-      from (short n) w = absurd (let q = w .which in omega arith)
+      from (second j g f) w = absurd (let q = ap (λ t. t .1) w in omega arith)
+      from (neither n o g i) w = absurd (let q = ap (λ t. t .1) w in omega arith)
+      from (short n) w = absurd (let q = ap (λ t. t .1) w in omega arith)
 
   pub second-offered : length l ≡ last c
       → (T (keeps c m) × (T (keeps c l) → Beaten (profitOf c) m l))
-      ↔ Offers (comparedOf Accepted c l m) 0 2 (profitOf c m)
+      ↔ (comparisonNumbers (comparedOf Accepted c l m) ≡ (0, 2, profitOf c m))
   second-offered h = (to (settled c l m e), from (settled c l m e))
     where
       ahead : T (keeps c m) → T (leads (profitOf c) m l) ↔ Beaten (profitOf c) m l
       ahead j = leading (profitOf c) m l (kept-length c m j ∙ sym h)
 
       to : {x : Comparison} → Settled c l m x → (T (keeps c m) × (T (keeps c l) → Beaten (profitOf c) m l))
-          → Offers x 0 2 (profitOf c m)
+          → comparisonNumbers x ≡ (0, 2, profitOf c m)
       to (first k g f) (j, w) = absurd (leads-behind (profitOf c) l m (ahead j .1 (w k)) (f j))
-      to (second j g f) w = record { number = refl; which = refl; profit = refl }
+      to (second j g f) w = refl
       to (neither n o g i) (j, w) = absurd (o j)
       to (short n) (j, w) = absurd (fails n h (kept-length c m j))
 
-      from : {x : Comparison} → Settled c l m x → Offers x 0 2 (profitOf c m)
+      from : {x : Comparison} → Settled c l m x → comparisonNumbers x ≡ (0, 2, profitOf c m)
           → T (keeps c m) × (T (keeps c l) → Beaten (profitOf c) m l)
-      from (first k g f) w = absurd (let q = w .which in omega arith)
+      from (first k g f) w = absurd (let q = ap (λ t. t .1) w in omega arith)
       from (second j g f) w = (j, λ k. ahead j .0 (f k))
-      from (neither n o g i) w = absurd (let q = w .which in omega arith)
-      from (short n) w = absurd (let q = w .which in omega arith)
+      from (neither n o g i) w = absurd (let q = ap (λ t. t .1) w in omega arith)
+      from (short n) w = absurd (let q = ap (λ t. t .1) w in omega arith)
 
   pub none-offered : length l ≡ last c → length m ≡ last c
-      → ((T (keeps c l) → ⊥) × (T (keeps c m) → ⊥)) ↔ Offers (comparedOf Accepted c l m) 0 0 (pos 0)
+      → ((T (keeps c l) → ⊥) × (T (keeps c m) → ⊥)) ↔ (comparisonNumbers (comparedOf Accepted c l m) ≡ (0, 0, pos 0))
   none-offered h i = (to (settled c l m e), from (settled c l m e))
     where
-      to : {x : Comparison} → Settled c l m x → ((T (keeps c l) → ⊥) × (T (keeps c m) → ⊥)) → Offers x 0 0 (pos 0)
+      to : {x : Comparison} → Settled c l m x → ((T (keeps c l) → ⊥) × (T (keeps c m) → ⊥))
+          → comparisonNumbers x ≡ (0, 0, pos 0)
       to (first k g f) (n, o) = absurd (n k)
       to (second j g f) (n, o) = absurd (o j)
-      to (neither n o g f) w = record { number = refl; which = refl; profit = refl }
+      to (neither n o g f) w = refl
       to (short n) w = absurd (fails n h i)
 
-      from : {x : Comparison} → Settled c l m x → Offers x 0 0 (pos 0) → (T (keeps c l) → ⊥) × (T (keeps c m) → ⊥)
-      from (first k g f) w = absurd (let q = w .which in omega arith)
-      from (second j g f) w = absurd (let q = w .which in omega arith)
+      from : {x : Comparison} → Settled c l m x → comparisonNumbers x ≡ (0, 0, pos 0)
+          → (T (keeps c l) → ⊥) × (T (keeps c m) → ⊥)
+      from (first k g f) w = absurd (let q = ap (λ t. t .1) w in omega arith)
+      from (second j g f) w = absurd (let q = ap (λ t. t .1) w in omega arith)
       from (neither n o g f) w = (n, o)
-      from (short n) w = absurd (let q = w .number in omega arith)
+      from (short n) w = absurd (let q = ap (λ t. t .0) w in omega arith)
 
-  pub uncompared : ((length l ≡ last c → ⊥) ⊎ (length m ≡ last c → ⊥)) ↔ Offers (comparedOf Accepted c l m) 9 0 (pos 0)
+  pub uncompared : ((length l ≡ last c → ⊥) ⊎ (length m ≡ last c → ⊥))
+      ↔ (comparisonNumbers (comparedOf Accepted c l m) ≡ (9, 0, pos 0))
   uncompared = (to (settled c l m e), from (settled c l m e))
     where
       to : {x : Comparison} → Settled c l m x → ((length l ≡ last c → ⊥) ⊎ (length m ≡ last c → ⊥))
-          → Offers x 9 0 (pos 0)
+          → comparisonNumbers x ≡ (9, 0, pos 0)
       to (first k g f) n = absurd (fails n (kept-length c l k) g)
       to (second j g f) n = absurd (fails n g (kept-length c m j))
       to (neither _ _ g f) n = absurd (fails n g f)
-      to (short n) w = refused-offers 9
+      to (short n) w = refl
 
-      from : {x : Comparison} → Settled c l m x → Offers x 9 0 (pos 0)
+      from : {x : Comparison} → Settled c l m x → comparisonNumbers x ≡ (9, 0, pos 0)
           → (length l ≡ last c → ⊥) ⊎ (length m ≡ last c → ⊥)
-      from (first k g f) w = absurd (let q = w .number in omega arith)
-      from (second j g f) w = absurd (let q = w .number in omega arith)
-      from (neither n o g f) w = absurd (let q = w .number in omega arith)
+      from (first k g f) w = absurd (let q = ap (λ t. t .0) w in omega arith)
+      from (second j g f) w = absurd (let q = ap (λ t. t .0) w in omega arith)
+      from (neither n o g f) w = absurd (let q = ap (λ t. t .0) w in omega arith)
       from (short n) w = n
 
 -- ---- entries past a count

@@ -13,7 +13,8 @@ use Rattle.model.specs.declared.Case.{Case}
 use Rattle.model.specs.declared.Reading.{Reading}
 use Rattle.model.specs.declared.Outcome.the-variants.{Accepted, Refused}
 use Rattle.model.specs.Limits.{mostStages, mostHours}
-use Rattle.model.specs.Layout.{lengthAt, padded, noOutput, blank, zeroed, caseOf}
+use Rattle.model.specs.Layout.{number, numberAt, offsetAt, lengthAt, sectionAt, listed, padded, noOutput}
+use Rattle.model.specs.Layout.{blank, zeroed, caseOf}
 use Rattle.model.specs.Refusals.{refusalOf}
 use Rattle.model.specs.Answers.{readingOf, readOf, admitOf, outcomeNumber}
 use Rattle.model.specs.Published.{cut, Zeroed, AllZero, Stored}
@@ -105,9 +106,37 @@ zeroed-view c lim s =
       orders = padded-cut 0 (c .orders) (c .hours) mostHours (omega (arith, lim .hours-le, s .orders)) (lim .hours-le);
     }
 
+-- what no bytes hold, field by field
+abbrev pub zeros : Case
+zeros =
+    record {
+      capacity = noOutput;
+      minimum = noOutput;
+      rampup = noOutput;
+      rampdown = noOutput;
+      minup = record { 0 = 0 };
+      mindown = record { 0 = 0 };
+      variable = 0;
+      fixed = 0;
+      startcost = 0;
+      stopcost = 0;
+      initial = noOutput;
+      elapsed = record { 0 = 0 };
+      rise = replicate mostStages noOutput;
+      fall = replicate mostStages noOutput;
+      prices = replicate mostHours 0;
+      orders = replicate mostHours 0;
+      rises = 0;
+      falls = 0;
+      hours = 0;
+    }
+
+pub blank-zeros : zeros ≡ blank
+unfolding blank caseOf sectionAt offsetAt lengthAt numberAt number padded listed
+blank-zeros = refl
+
 blank-view : AllZero blank
-unfolding blank
-blank-view = record { unit = refl; rise = refl; fall = refl; prices = refl; orders = refl }
+blank-view = subst AllZero blank-zeros (record { unit = refl; rise = refl; fall = refl; prices = refl; orders = refl })
 
 -- ---- readings
 reads-none : {n : ℕ} {r : Reading} → record { outcome = Refused n; case = blank } ≡ r → ReadsNone n r

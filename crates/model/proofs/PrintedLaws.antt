@@ -194,8 +194,7 @@ module _ (input lent : List ℕ) where
   printed h =
       rw (le-ltb (length lent) (length text) h)
       (record {
-        unrefused = refl;
-        size = refl;
+        numbers = refl;
         front = take-at text (drop (length text) lent) (length text) refl;
         beyond = drop-at text (drop (length text) lent) (length text) refl;
       })
@@ -203,7 +202,7 @@ module _ (input lent : List ℕ) where
   pub unprinted : length lent < length text → WritesNone 10 lent (printingOf input lent)
   unfolding printingOf
   unprinted h =
-      rw (lt-ltb (length lent) (length text) h) (record { number = refl; nothing = refl; untouched = refl })
+      rw (lt-ltb (length lent) (length text) h) (record { numbers = refl; untouched = refl })
 
   pub printingOf-short : length lent < length (printedOf input)
       → record { answer = NotWritten 10; lent = lent } ≡ printingOf input lent

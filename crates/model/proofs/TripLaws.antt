@@ -11,7 +11,7 @@ use Rattle.model.specs.declared.Outcome.the-variants.{Accepted}
 use Rattle.model.specs.declared.Written.the-variants.{Bytes, Refused}
 use Rattle.model.specs.Layout.{AllBytes, bytesOf, zeroed, fileLength}
 use Rattle.model.specs.Refusals.{refusalOf}
-use Rattle.model.specs.Answers.{Writing, readOf, writeOf, writtenNumber, writtenLength}
+use Rattle.model.specs.Answers.{Writing, readOf, writeOf, writtenNumbers}
 use Rattle.model.specs.Published.{Holds, Stored}
 use Rattle.model.specs.Promises.{WritesFile, WritesNone}
 use Rattle.model.proofs.LimitsLaws.{limits-of-refusalOf}
@@ -30,7 +30,7 @@ abbrev unfiled : ℕ → List ℕ → Writing
 unfiled n lent = record { answer = Refused n; lent = lent }
 
 unfiled-none : {n : ℕ} {lent : List ℕ} {w : Writing} → unfiled n lent ≡ w → WritesNone n lent w
-unfiled-none {n} {lent} e = subst (WritesNone n lent) e (record { number = refl; nothing = refl; untouched = refl })
+unfiled-none {n} {lent} e = subst (WritesNone n lent) e (record { numbers = refl; untouched = refl })
 
 module _ (c : Case) (lent : List ℕ) where
   writeOf-filed : refusalOf c ≡ 0 → length (bytesOf c) ≤ length lent → writeOf c lent ≡ filed (bytesOf c) lent
@@ -46,8 +46,7 @@ module _ (c : Case) (lent : List ℕ) where
       let rest = drop (length b) lent in
       subst (WritesFile c lent) (sym (writeOf-filed e (omega (arith, length-bytesOf c))))
       (record {
-        unrefused = refl;
-        size = length-bytesOf c;
+        numbers = ap (λ n. (0, n)) (length-bytesOf c);
         file = subst (λ l. Holds l c) (sym (take-append-seam b rest)) (holds-bytesOf c e s);
         beyond = drop-append-seam b rest;
       })
@@ -61,23 +60,24 @@ module _ (c : Case) (lent : List ℕ) where
 
   -- ---- the round trip
   -- bytes were written: the record is within the limits, and they have room
-  written-within : writtenNumber (writeOf c lent .answer) ≡ 0 → refusalOf c ≡ 0
+  written-within : writtenNumbers (writeOf c lent .answer) .0 ≡ 0 → refusalOf c ≡ 0
   written-within n =
-      let above : 0 < refusalOf c → ⊥ = λ h. omega (arith, refused-writing (λ e. omega arith) .number) in
+      let above : 0 < refusalOf c → ⊥ =
+      λ h. omega (arith, ap (λ t. t .0) (refused-writing (λ e. omega arith) .numbers)) in
       omega arith
 
-  written-room : writtenNumber (writeOf c lent .answer) ≡ 0 → refusalOf c ≡ 0 → length (bytesOf c) ≤ length lent
+  written-room : writtenNumbers (writeOf c lent .answer) .0 ≡ 0 → refusalOf c ≡ 0 → length (bytesOf c) ≤ length lent
   written-room n e =
       let short : length lent < length (bytesOf c) → ⊥ =
-      λ h. omega (arith, unfiled-none (writeOf-short c lent e h) .number) in
+      λ h. omega (arith, ap (λ t. t .0) (unfiled-none (writeOf-short c lent e h) .numbers)) in
       omega arith
 
-  pub written-reads : Stored c → writtenNumber (writeOf c lent .answer) ≡ 0
-      → readOf (take (writtenLength (writeOf c lent .answer)) (writeOf c lent .lent))
+  pub written-reads : Stored c → writtenNumbers (writeOf c lent .answer) .0 ≡ 0
+      → readOf (take (writtenNumbers (writeOf c lent .answer) .1) (writeOf c lent .lent))
       ≡ record { outcome = Accepted; case = zeroed c }
   written-reads s n =
       let e = written-within n in
-      ap (λ w. readOf (take (writtenLength (w .answer)) (w .lent))) (writeOf-filed e (written-room n e))
+      ap (λ w. readOf (take (writtenNumbers (w .answer) .1) (w .lent))) (writeOf-filed e (written-room n e))
       ∙ ap readOf (take-append-seam (bytesOf c) (drop (length (bytesOf c)) lent))
       ∙ bytesOf-reads c (limits-of-refusalOf c e) (s .price-lt) e
 

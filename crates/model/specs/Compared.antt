@@ -30,26 +30,12 @@ preferred before (Breaks b) (Passes other) = Second other
 unfoldable pub comparedOf : Outcome → Case → List ℕ → List ℕ → Comparison
 comparedOf o c l m = preferred (leads (profitOf c) m l) (checkOf o c l) (checkOf o c m)
 
--- the papers' number of the answer: that of a refusal, else 0
-abbrev pub comparisonNumber : Comparison → ℕ
-comparisonNumber (First earned) = 0
-comparisonNumber (Second earned) = 0
-comparisonNumber Neither = 0
-comparisonNumber (NotCompared n) = n
-
--- which list it is, 1 or 2; 0 for neither and on a refusal
-abbrev pub comparisonWhich : Comparison → ℕ
-comparisonWhich (First earned) = 1
-comparisonWhich (Second earned) = 2
-comparisonWhich Neither = 0
-comparisonWhich (NotCompared n) = 0
-
--- its profit in half-mills; 0 for neither and on a refusal
-abbrev pub comparisonProfit : Comparison → ℤ
-comparisonProfit (First earned) = earned .0
-comparisonProfit (Second earned) = earned .0
-comparisonProfit Neither = pos 0
-comparisonProfit (NotCompared n) = pos 0
+-- the papers' number of the answer, that of a refusal or 0; which list it is, 1 or 2, or 0; its profit in half-mills
+abbrev pub comparisonNumbers : Comparison → ℕ × ℕ × ℤ
+comparisonNumbers (First earned) = (0, 1, earned .0)
+comparisonNumbers (Second earned) = (0, 2, earned .0)
+comparisonNumbers Neither = (0, 0, pos 0)
+comparisonNumbers (NotCompared n) = (n, 0, pos 0)
 
 -- a part of lent memory: the block and the offset at which it begins, and its outputs
 pub record Part : Type 0 where
@@ -60,16 +46,12 @@ pub record Part : Type 0 where
 abbrev pub partOf : RefT (List ℕ) → Part
 partOf s = record { place = s .ptr; outputs = s .now }
 
--- no outputs, where a part begins
-abbrev pub emptied : Part → Part
-emptied a = record { place = a .place; outputs = [] }
-
 -- the part of the list that is offered, as it was lent; for neither and on a refusal the empty part of the first
 abbrev pub handed : Part → Part → Comparison → Part
 handed a b (First earned) = a
 handed a b (Second earned) = b
-handed a b Neither = emptied a
-handed a b (NotCompared n) = emptied a
+handed a b Neither = record { place = a .place; outputs = [] }
+handed a b (NotCompared n) = record { place = a .place; outputs = [] }
 
 -- `better`: the part that is handed back
 unfoldable pub betterOf : Outcome → Case → Part → Part → Part
