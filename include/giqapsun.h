@@ -9,22 +9,30 @@
  *
  *   output    megawatts (MW), whole; p(k) is the output at the end of hour k, p(0) the one before hour 1
  *   hour      1 to T; hour 0 is the one before the day
- *   price, F  mills (thousandths of a dollar) per MWh; A mills per on-line hour, B per start, C per stop
+ *   price     mills (thousandths of a dollar) per MWh, from GIQAPSUN_PRICE_LEAST to GIQAPSUN_PRICE_MOST
+ *   cost      F mills per MWh, A mills per on-line hour, B per start, C per stop; none is below 0
  *   profit    half-mills: 2,000 to the dollar, exact, may be negative
  *
- * Refusals: the `number` of an answer. 0 is no refusal. The conditions are tested from the top, and the
- * first that applies is given. giqapsun_read tests 1 to 8, giqapsun_write 2 to 8 and 10, giqapsun_check
- * 2 to 9, giqapsun_best 2 to 8, 10 and 11, giqapsun_better 2 to 9.
+ * Case files: giqapsun_read takes two forms. Form 2 has five sections, of which the last holds the form
+ * number, and signed 32-bit prices; the old form has four and 16-bit prices, 0 to 65,535. giqapsun_write
+ * writes form 2. So a file of form 2 that is read and written again is the same bytes, one of the old form
+ * the same case.
+ *
+ * Refusals: the `number` of an answer. 0 is no refusal. The conditions are tested in the order of this
+ * list, and the first that applies is given. giqapsun_read tests 1 to 8, 12 and 13; giqapsun_write 2 to 8,
+ * 13 and 10; giqapsun_check and giqapsun_better 2 to 8, 13 and 9; giqapsun_best 2 to 8, 13, 10 and 11.
  *
  *   1   file under 16 bytes, or pairs not as laid down
  *   2   a section length, or a count in a record, not as laid down
+ *   12  form number not 2
  *   3   minimum output 0 or above capacity, or capacity above 400
  *   4   RU or RD outside 1 to 400, or a minimum time outside 1 to 8
- *   5   F above 1,000,000, or A, B or C above 100,000,000
+ *   5   F not from 0 to 1,000,000, or A, B or C not from 0 to 100,000,000
  *   6   PU not strictly rising from 1 or more to the minimum output, or PD not strictly falling from the
  *       minimum output to 1 or more
  *   7   h outside 1 to 10,000; p(0) neither 0 nor from minimum to capacity; p(0) above 0 with h below UD
  *   8   an order byte above 2
+ *   13  a price outside -10,000,000 to 10,000,000
  *   9   checked list not of T outputs
  *   10  lent memory short: 8,192 signed 64-bit numbers to work in, T outputs, or the written file's bytes
  *   11  best list asked for, and no list keeps every rule
@@ -101,7 +109,7 @@ extern "C" {
 #endif
 
 /* Version of the product. */
-#define GIQAPSUN_VERSION "1.1.0"
+#define GIQAPSUN_VERSION "2.0.0"
 
 /*
  * Number of the layout: it changes with every change of a struct below, and each function of the library
@@ -109,7 +117,7 @@ extern "C" {
  * A call that a version adds, and a struct with it, leaves the number: of two versions of one layout the
  * later has every call of the earlier.
  */
-#define GIQAPSUN_LAYOUT 1
+#define GIQAPSUN_LAYOUT 2
 
 #define GIQAPSUN_JOINED(name, layout) name##_##layout
 #define GIQAPSUN_NAMED(name, layout) GIQAPSUN_JOINED(name, layout)
@@ -133,8 +141,12 @@ extern "C" {
 #define GIQAPSUN_STACK_BEST 49152
 #define GIQAPSUN_STACK_BETTER 4096
 
-/* Bytes of the longest file: pairs and unit, two trajectories, hours. */
-#define GIQAPSUN_FILE_MOST (48 + 2 * GIQAPSUN_STAGES * 2 + 3 * GIQAPSUN_HOURS)
+/* Bytes of the longest file: pairs, unit, two trajectories, hours, form number. */
+#define GIQAPSUN_FILE_MOST (20 + 32 + 2 * GIQAPSUN_STAGES * 2 + 5 * GIQAPSUN_HOURS + 2)
+
+/* The lowest and the highest price, mills per MWh. */
+#define GIQAPSUN_PRICE_LEAST (-10000000)
+#define GIQAPSUN_PRICE_MOST 10000000
 
 /* Orders of an hour. */
 #define GIQAPSUN_FREE 0
@@ -149,16 +161,16 @@ struct giqapsun_case {
     uint16_t rampdown;  /* RD, MW per hour */
     uint16_t minup;     /* minimum up time, hours */
     uint16_t mindown;   /* minimum down time, hours */
-    uint32_t variable;  /* F, mills per MWh */
-    uint32_t fixed;     /* A, mills per on-line hour */
-    uint32_t startcost; /* B, mills per start */
-    uint32_t stopcost;  /* C, mills per stop */
+    int32_t variable;   /* F, mills per MWh */
+    int32_t fixed;      /* A, mills per on-line hour */
+    int32_t startcost;  /* B, mills per start */
+    int32_t stopcost;   /* C, mills per stop */
     uint16_t initial;   /* p(0), MW */
     uint16_t elapsed;   /* h: hours on-line (p(0) above 0) or off-line (p(0) 0) before hour 1 */
-    uint16_t rise[GIQAPSUN_STAGES];  /* PU, MW */
-    uint16_t fall[GIQAPSUN_STAGES];  /* PD, MW */
-    uint16_t prices[GIQAPSUN_HOURS]; /* prices[k - 1] is that of hour k, mills per MWh */
-    uint8_t orders[GIQAPSUN_HOURS];  /* orders[k - 1] is that of hour k: free, on-line or off-line */
+    uint16_t rise[GIQAPSUN_STAGES]; /* PU, MW */
+    uint16_t fall[GIQAPSUN_STAGES]; /* PD, MW */
+    int32_t prices[GIQAPSUN_HOURS]; /* prices[k - 1] is that of hour k, mills per MWh, below 0 too */
+    uint8_t orders[GIQAPSUN_HOURS]; /* orders[k - 1] is that of hour k: free, on-line or off-line */
     size_t rises; /* UD: entries of rise, 1 to 8 */
     size_t falls; /* DD: entries of fall, 1 to 8 */
     size_t hours; /* T: entries of prices and of orders, 1 to 48 */
@@ -204,12 +216,12 @@ struct giqapsun_choice {
     int64_t profit;
 };
 
-/* Reads the n bytes of a case file. Changes no lent memory. */
+/* Reads the n bytes of a case file, of form 2 or of the old form. Changes no lent memory. */
 struct giqapsun_reading giqapsun_read(const uint8_t *file, size_t n);
 
 /*
- * Writes the file of a case into n lent bytes; GIQAPSUN_FILE_MOST are enough for any case. Changes the
- * first `length` bytes; on a refusal, none.
+ * Writes the file of a case, of form 2, into n lent bytes; GIQAPSUN_FILE_MOST are enough for any case.
+ * Changes the first `length` bytes; on a refusal, none.
  */
 struct giqapsun_written giqapsun_write(struct giqapsun_case c, uint8_t *bytes, size_t n);
 

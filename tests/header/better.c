@@ -27,7 +27,8 @@ enum {
 /* Two lists with their lengths, at a price and a ramp-up limit, and the answer. */
 static const struct row {
     size_t first, n, second, m;
-    uint16_t price, rampup;
+    int32_t price;
+    uint16_t rampup;
     uint32_t number, which;
     int64_t profit;
 } rows[] = {
@@ -45,6 +46,10 @@ static const struct row {
     {FALLS, 3, RISES, 3, 10, 1, 0, 2, -6},
     {LATER, 3, HIGH, 3, 10, 1, 0, 1, -6},
     {HIGH, 3, LATER, 3, 10, 1, 0, 2, -6},
+    /* below 0 the list that gives less, and in a spike the one that gives more */
+    {LOW, 3, HIGH, 3, -5, 1, 0, 1, 13 * -15 - 6},
+    {HIGH, 3, LOW, 3, GIQAPSUN_PRICE_LEAST, 1, 0, 2, 13 * -10000010LL - 6},
+    {LOW, 3, HIGH, 3, GIQAPSUN_PRICE_MOST, 1, 0, 2, 18 * 9999990LL - 6},
     /* identical lists, and the same one */
     {BEST, 3, AGAIN, 3, 5, 1, 0, 1, -53},
     {AGAIN, 3, BEST, 3, 5, 1, 0, 1, -53},
@@ -60,6 +65,9 @@ static const struct row {
     /* the case before the lengths */
     {BEST, 3, LOW, 3, 5, 0, 4, 0, 0},
     {BEST, 2, LOW, 4, 5, 0, 4, 0, 0},
+    {BEST, 3, LOW, 3, GIQAPSUN_PRICE_LEAST - 1, 1, 13, 0, 0},
+    {BEST, 2, LOW, 4, GIQAPSUN_PRICE_MOST + 1, 1, 13, 0, 0},
+    {BEST, 3, LOW, 3, GIQAPSUN_PRICE_MOST + 1, 0, 4, 0, 0},
 };
 
 #define ROWS (sizeof rows / sizeof *rows)

@@ -4,7 +4,7 @@
 #include <stdio.h>
 #include <string.h>
 
-#define CONSTANT(name) printf("%s %lu\n", #name, (unsigned long)GIQAPSUN_##name)
+#define CONSTANT(name) printf("%s %ld\n", #name, (long)GIQAPSUN_##name)
 #define STRUCT(name) printf("%s: size %lu\n", #name, (unsigned long)sizeof(struct giqapsun_##name))
 #define PLACE(name, field)                                         \
     printf("%s.%s: offset %lu, size %lu", #name, #field,           \
@@ -42,6 +42,8 @@ int main(void)
     CONSTANT(HOURS);
     CONSTANT(WORK);
     CONSTANT(FILE_MOST);
+    CONSTANT(PRICE_LEAST);
+    CONSTANT(PRICE_MOST);
     CONSTANT(FREE);
     CONSTANT(ON);
     CONSTANT(OFF);

@@ -17,7 +17,7 @@ def sign(kind):
 
 def main():
     """Every constant, structure and field."""
-    for name in ("LAYOUT", "STAGES", "HOURS", "WORK", "FILE_MOST"):
+    for name in ("LAYOUT", "STAGES", "HOURS", "WORK", "FILE_MOST", "PRICE_LEAST", "PRICE_MOST"):
         print(name, getattr(boundary, name))
     for name in ("FREE", "ON", "OFF"):
         print(name, getattr(giqapsun, name))

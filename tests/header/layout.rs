@@ -17,7 +17,9 @@ macro_rules! signs {
     ($($kind:ty: $sign:literal)*) => { $(impl Sign for $kind { const SIGN: &'static str = $sign; })* };
 }
 
-signs! { u8: ", unsigned" u16: ", unsigned" u32: ", unsigned" usize: ", unsigned" i64: ", signed" Case: "" }
+signs! {
+    u8: ", unsigned" u16: ", unsigned" u32: ", unsigned" usize: ", unsigned" i32: ", signed" i64: ", signed" Case: ""
+}
 
 impl<N: Sign, const COUNT: usize> Sign for [N; COUNT] {
     const SIGN: &'static str = N::SIGN;
@@ -46,6 +48,8 @@ fn main() {
     println!("HOURS {}", boundary::HOURS);
     println!("WORK {}", boundary::WORK);
     println!("FILE_MOST {}", boundary::FILE_MOST);
+    println!("PRICE_LEAST {}", boundary::PRICE_LEAST);
+    println!("PRICE_MOST {}", boundary::PRICE_MOST);
     println!("FREE {}", boundary::FREE);
     println!("ON {}", boundary::ON);
     println!("OFF {}", boundary::OFF);

@@ -91,7 +91,7 @@ static void fill_largest(void)
         largest.fall[i] = (uint16_t)(GIQAPSUN_STAGES - i);
     }
     for (uint16_t k = 0; k < GIQAPSUN_HOURS; k++)
-        largest.prices[k] = k / 12 % 2 == 0 ? 60000 : 1000;
+        largest.prices[k] = k / 12 % 2 == 0 ? GIQAPSUN_PRICE_MOST : GIQAPSUN_PRICE_LEAST;
 }
 
 /* All calls on that day. */
