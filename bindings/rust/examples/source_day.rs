@@ -5,11 +5,16 @@ use giqapsun::{best, check, read, Case, Refusal, Verdict};
 /// The stored case.
 const FILE: &[u8] = include_bytes!("../../../cases/source.case");
 
+/// Parts of a dollar, which are thousandths for three decimals, as dollars.
+fn decimal(parts: i64, decimals: u32) -> String {
+    let (sign, unit) = (if parts < 0 { "-" } else { "" }, 10u64.pow(decimals));
+    let (whole, rest) = (parts.unsigned_abs() / unit, parts.unsigned_abs() % unit);
+    format!("{sign}{whole}.{rest:0width$}", width = decimals as usize)
+}
+
 /// Half-mills as dollars with four decimals.
 fn dollars(half_mills: i64) -> String {
-    let ten_thousandths = 5 * half_mills.unsigned_abs();
-    let sign = if half_mills < 0 { "-" } else { "" };
-    format!("{sign}{}.{:04}", ten_thousandths / 10_000, ten_thousandths % 10_000)
+    decimal(5 * half_mills, 4)
 }
 
 /// What an hour earns in half-mills: energy sold less F, A if on-line, B for a start, C for a stop.
@@ -36,14 +41,13 @@ fn main() -> Result<(), Refusal> {
     println!("hour  price ($/MWh)  output (MW)  energy (MWh)  earnings ($)");
     let (mut before, mut halves) = (case.initial, 0);
     for (hour, &output) in (1..).zip(&plan.outputs) {
-        let mills = case.prices[hour - 1];
-        let price = format!("{}.{:03}", mills / 1000, mills % 1000);
+        let price = decimal(i64::from(case.prices[hour - 1]), 3);
         let energy = u32::from(before) + u32::from(output);
         let earnings = dollars(earned(&case, hour, before, output));
         println!("{hour:4}  {price:>13}  {output:11}  {:10}.{}  {earnings:>12}", energy / 2, energy % 2 * 5);
         halves += energy;
         before = output;
     }
-    println!("total{:>41}.{}  {:>12}", halves / 2, halves % 2 * 5, dollars(plan.profit));
+    println!("total{:>39}.{}  {:>12}", halves / 2, halves % 2 * 5, dollars(plan.profit));
     Ok(())
 }

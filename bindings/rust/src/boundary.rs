@@ -3,7 +3,7 @@
 
 /// Number of the layout of these structs. The library's functions carry it in their names, so that a library of
 /// another layout does not link.
-pub const LAYOUT: u32 = 1;
+pub const LAYOUT: u32 = 2;
 
 /// Entries that a record has room for in a trajectory.
 pub const STAGES: usize = 8;
@@ -14,8 +14,14 @@ pub const HOURS: usize = 48;
 /// Signed 64-bit numbers that the search is lent to work in.
 pub const WORK: usize = 8192;
 
-/// Bytes of the longest file: pairs and unit, two trajectories, hours.
-pub const FILE_MOST: usize = 48 + 2 * STAGES * 2 + 3 * HOURS;
+/// Bytes of the longest file: pairs, unit, two trajectories, hours, form number.
+pub const FILE_MOST: usize = 20 + 32 + 2 * STAGES * 2 + 5 * HOURS + 2;
+
+/// The lowest price, in mills per MWh.
+pub const PRICE_LEAST: i32 = -10_000_000;
+
+/// The highest price, in mills per MWh.
+pub const PRICE_MOST: i32 = 10_000_000;
 
 /// Order of an hour: the unit may be on-line or off-line.
 pub const FREE: u8 = 0;
@@ -44,13 +50,13 @@ pub struct Case {
     /// Minimum down time in hours.
     pub mindown: u16,
     /// F in mills per MWh.
-    pub variable: u32,
+    pub variable: i32,
     /// A in mills per on-line hour.
-    pub fixed: u32,
+    pub fixed: i32,
     /// B in mills per start.
-    pub startcost: u32,
+    pub startcost: i32,
     /// C in mills per stop.
-    pub stopcost: u32,
+    pub stopcost: i32,
     /// p(0), the output before hour 1, in MW.
     pub initial: u16,
     /// h, the hours on-line (p(0) above 0) or off-line (p(0) 0) before hour 1.
@@ -59,8 +65,8 @@ pub struct Case {
     pub rise: [u16; STAGES],
     /// Shut-down trajectory PD in MW.
     pub fall: [u16; STAGES],
-    /// Prices in mills per MWh; that of hour k at k - 1.
-    pub prices: [u16; HOURS],
+    /// Prices in mills per MWh, from [`PRICE_LEAST`] to [`PRICE_MOST`]; that of hour k at k - 1.
+    pub prices: [i32; HOURS],
     /// Orders: [`FREE`], [`ON`] or [`OFF`]; that of hour k at k - 1.
     pub orders: [u8; HOURS],
     /// UD: how many entries of `rise` count, 1 to 8.
@@ -157,24 +163,24 @@ pub struct Choice {
 // Every pointer is valid for its length, aligned and not null; lent slices do not overlap, but the two lists
 // of giqapsun_better may.
 extern "C" {
-    /// Reads the `n` bytes of a file; changes no lent memory.
-    #[link_name = "giqapsun_read_1"]
+    /// Reads the `n` bytes of a file, of form 2 or of the old form; changes no lent memory.
+    #[link_name = "giqapsun_read_2"]
     pub fn giqapsun_read(file: *const u8, n: usize) -> Reading;
 
-    /// Writes a file into `n` lent bytes; changes the first `length` of them, on a refusal none.
-    #[link_name = "giqapsun_write_1"]
+    /// Writes a file of form 2 into `n` lent bytes; changes the first `length` of them, on a refusal none.
+    #[link_name = "giqapsun_write_2"]
     pub fn giqapsun_write(c: Case, bytes: *mut u8, n: usize) -> Written;
 
     /// Checks a list of `n` outputs; changes no lent memory.
-    #[link_name = "giqapsun_check_1"]
+    #[link_name = "giqapsun_check_2"]
     pub fn giqapsun_check(c: Case, list: *const u16, n: usize) -> Verdict;
 
     /// Finds the best list with `n` numbers to work in, at least [`WORK`], and `m` outputs, at least T.
     /// Fills the first T outputs on number 0; zeroes the first [`WORK`] numbers on 0 and 11.
-    #[link_name = "giqapsun_best_1"]
+    #[link_name = "giqapsun_best_2"]
     pub fn giqapsun_best(c: Case, work: *mut i64, n: usize, outputs: *mut u16, m: usize) -> Plan;
 
     /// Tells the better of a list of `n` outputs and one of `m`; changes no lent memory.
-    #[link_name = "giqapsun_better_1"]
+    #[link_name = "giqapsun_better_2"]
     pub fn giqapsun_better(c: Case, first: *const u16, n: usize, second: *const u16, m: usize) -> Choice;
 }

@@ -3,7 +3,7 @@
 //! library behind it is proved; this crate lends it memory and turns its answers into Rust's.
 //!
 //! Outputs are whole megawatts, prices and costs mills (thousandths of a dollar), profits half-mills (2,000
-//! to the dollar, exact). Hours are counted from 1; hour 0 is the one before the day.
+//! to the dollar, exact). A price may be below 0. Hours are counted from 1; hour 0 is the one before the day.
 //!
 //! ```
 //! use giqapsun::{best, better, check, read, write, Case, Verdict};
@@ -38,6 +38,12 @@
 //! assert_eq!(check(&case, &[2, 2, 0])?, Verdict::Breaks { hour: 2, rule: 4 });
 //! assert_eq!(read(&write(&case)?)?, case);
 //!
+//! // An hour below 0, and a spike that is worth going through it.
+//! let mut spike = case;
+//! spike.prices[..3].copy_from_slice(&[5, -20, 80_000]);
+//! assert_eq!(best(&spike)?.outputs, [3, 4, 4]);
+//! assert_eq!(best(&spike)?.profit, 639_674);
+//!
 //! // Lists from two houses: the better one comes back, the very slice that was lent.
 //! let (first, second) = ([2, 2, 2], [2, 1, 0]);
 //! let offered = better(&case, &first, &second);
@@ -52,7 +58,7 @@ pub mod boundary;
 mod refusal;
 mod rule;
 
-pub use boundary::{Case, FILE_MOST, FREE, HOURS, OFF, ON, STAGES, WORK};
+pub use boundary::{Case, FILE_MOST, FREE, HOURS, OFF, ON, PRICE_LEAST, PRICE_MOST, STAGES, WORK};
 pub use refusal::Refusal;
 pub use rule::{rule_text, RULES};
 
@@ -102,22 +108,22 @@ pub enum Comparison {
     Neither,
 }
 
-/// Reads a case file.
+/// Reads a case file, of form 2 or of the old form.
 ///
 /// # Errors
 ///
-/// Refusals 1 to 8.
+/// Refusals 1 to 8, 12 and 13.
 pub fn read(file: &[u8]) -> Result<Case, Refusal> {
     // SAFETY: pointer and length are those of one slice, which is only read.
     let reading = unsafe { boundary::giqapsun_read(file.as_ptr(), file.len()) };
     accepted(reading.number, reading.c)
 }
 
-/// Writes the file of a case.
+/// Writes the file of a case, in form 2.
 ///
 /// # Errors
 ///
-/// Refusals 2 to 8.
+/// Refusals 2 to 8 and 13.
 pub fn write(case: &Case) -> Result<Vec<u8>, Refusal> {
     let mut bytes = vec![0; FILE_MOST];
     // SAFETY: pointer and length are those of one slice, lent for the call alone.
@@ -130,7 +136,7 @@ pub fn write(case: &Case) -> Result<Vec<u8>, Refusal> {
 ///
 /// # Errors
 ///
-/// Refusals 2 to 8 of the case, and 9 where the list is not of T outputs.
+/// Refusals 2 to 8 and 13 of the case, and 9 where the list is not of T outputs.
 pub fn check(case: &Case, list: &[u16]) -> Result<Verdict, Refusal> {
     // SAFETY: pointer and length are those of one slice, which is only read.
     let verdict = unsafe { boundary::giqapsun_check(*case, list.as_ptr(), list.len()) };
@@ -146,7 +152,7 @@ pub fn check(case: &Case, list: &[u16]) -> Result<Verdict, Refusal> {
 ///
 /// # Errors
 ///
-/// Refusals 2 to 8 of the case, and 11 where no list keeps every rule.
+/// Refusals 2 to 8 and 13 of the case, and 11 where no list keeps every rule.
 pub fn best(case: &Case) -> Result<Plan, Refusal> {
     let mut work = vec![0; WORK];
     let mut outputs = vec![0; HOURS];
@@ -163,7 +169,7 @@ pub fn best(case: &Case) -> Result<Plan, Refusal> {
 ///
 /// # Errors
 ///
-/// Refusals 2 to 8 of the case, and 9 where either list is not of T outputs.
+/// Refusals 2 to 8 and 13 of the case, and 9 where either list is not of T outputs.
 pub fn compare(case: &Case, first: &[u16], second: &[u16]) -> Result<Comparison, Refusal> {
     // SAFETY: pointers and lengths are those of two slices, which are only read.
     let choice = unsafe {

@@ -1,4 +1,4 @@
-//! Refusals 1 to 11.
+//! The refusal list.
 
 use std::error::Error;
 use std::fmt;
@@ -29,21 +29,27 @@ pub enum Refusal {
     Memory,
     /// 11: no list keeps every rule.
     NoSchedule,
+    /// 12: the form number of a file.
+    Form,
+    /// 13: prices.
+    Prices,
     /// A number that this crate does not know.
     Unknown(u32),
 }
 
 impl Refusal {
-    /// The refusals 1 to 11, in that order.
-    pub const ALL: [Refusal; 11] = [
+    /// Every refusal, in the order in which their conditions are tested.
+    pub const ALL: [Refusal; 13] = [
         Refusal::Pairs,
         Refusal::Counts,
+        Refusal::Form,
         Refusal::Capacity,
         Refusal::RampsAndTimes,
         Refusal::Costs,
         Refusal::Trajectories,
         Refusal::Opening,
         Refusal::Orders,
+        Refusal::Prices,
         Refusal::ListLength,
         Refusal::Memory,
         Refusal::NoSchedule,
@@ -51,8 +57,11 @@ impl Refusal {
 
     /// The refusal with this number; none for 0.
     pub fn from_number(number: u32) -> Option<Refusal> {
-        let place = number.checked_sub(1)?;
-        Some(Refusal::ALL.get(place as usize).copied().unwrap_or(Refusal::Unknown(number)))
+        if number == 0 {
+            return None;
+        }
+        let known = Refusal::ALL.into_iter().find(|refusal| refusal.number() == number);
+        Some(known.unwrap_or(Refusal::Unknown(number)))
     }
 
     /// The number in the refusal list.
@@ -69,6 +78,8 @@ impl Refusal {
             Refusal::ListLength => 9,
             Refusal::Memory => 10,
             Refusal::NoSchedule => 11,
+            Refusal::Form => 12,
+            Refusal::Prices => 13,
             Refusal::Unknown(number) => number,
         }
     }
@@ -80,7 +91,7 @@ impl Refusal {
             Refusal::Counts => "a section length, or a count in a record, not as laid down",
             Refusal::Capacity => "minimum output 0 or above capacity, or capacity above 400",
             Refusal::RampsAndTimes => "RU or RD outside 1 to 400, or a minimum time outside 1 to 8",
-            Refusal::Costs => "F above 1,000,000, or A, B or C above 100,000,000",
+            Refusal::Costs => "F not from 0 to 1,000,000, or A, B or C not from 0 to 100,000,000",
             Refusal::Trajectories => {
                 "PU not strictly rising from 1 or more to the minimum output, \
                  or PD not strictly falling from the minimum output to 1 or more"
@@ -96,6 +107,8 @@ impl Refusal {
                  or the written file's bytes"
             }
             Refusal::NoSchedule => "best list asked for, and no list keeps every rule",
+            Refusal::Form => "form number not 2",
+            Refusal::Prices => "a price outside -10,000,000 to 10,000,000",
             Refusal::Unknown(_) => "a number that is not in the refusal list",
         }
     }

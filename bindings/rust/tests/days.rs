@@ -1,10 +1,20 @@
-//! The twelve known days and the source's day.
+//! The twelve known days, the source's day, and prices below 0 and far above.
 
-use giqapsun::{best, check, read, write, Case, Plan, Refusal, Verdict, FREE, OFF, ON};
+use std::fmt::Debug;
+use std::str::FromStr;
+
+use giqapsun::{
+    best, check, read, write, Case, Plan, Refusal, Verdict, FREE, OFF, ON, PRICE_LEAST, PRICE_MOST,
+};
 
 const KNOWN_DAYS: &str = include_str!("../../../cases/known_days.txt");
 const SOURCE: &[u8] = include_bytes!("../../../cases/source.case");
 const CASE_7: &[u8] = include_bytes!("../../../cases/case7.case");
+const BELOW_ZERO: &[u8] = include_bytes!("../../../cases/below_zero.case");
+
+/// The same two in the old form.
+const OLD_SOURCE: &[u8] = include_bytes!("../../../cases/old/source.case");
+const OLD_CASE_7: &[u8] = include_bytes!("../../../cases/old/case7.case");
 
 /// The list that the source prints in Table III.
 const SOURCE_LIST: [u16; 24] = [
@@ -34,7 +44,10 @@ fn known_unit() -> Case {
 }
 
 /// Numbers with commas between.
-fn numbers(text: &str) -> Vec<u16> {
+fn numbers<N: FromStr>(text: &str) -> Vec<N>
+where
+    N::Err: Debug,
+{
     text.split(',').map(|word| word.parse().unwrap()).collect()
 }
 
@@ -101,13 +114,85 @@ fn source_day() {
     assert_eq!(write(&case).unwrap(), SOURCE);
 }
 
+/// An old file is the same case, and comes back in form 2.
+#[test]
+fn old_files() {
+    for (old, file) in [(OLD_CASE_7, CASE_7), (OLD_SOURCE, SOURCE)] {
+        let case = read(old).unwrap();
+        assert_eq!(Ok(case), read(file));
+        assert_eq!(write(&case).unwrap(), file);
+    }
+}
+
+/// Case 7's unit at these prices, as written and read again.
+fn priced(prices: &[i32]) -> Case {
+    let mut case = known_unit();
+    (case.mindown, case.initial, case.elapsed, case.hours) = (1, 3, 2, prices.len());
+    case.prices[..prices.len()].copy_from_slice(prices);
+    assert_eq!(read(&write(&case).unwrap()), Ok(case));
+    case
+}
+
+/// Every list that passes earns what its energies do at the prices, and the best list is among those that earn most.
+#[test]
+fn prices_below_0_and_far_above() {
+    for prices in [
+        [-1, -1, -1],
+        [5, -20, 80_000],
+        [PRICE_LEAST, PRICE_LEAST, PRICE_LEAST],
+        [PRICE_MOST, PRICE_MOST, PRICE_MOST],
+        [PRICE_LEAST, PRICE_MOST, PRICE_LEAST],
+        [PRICE_MOST, PRICE_LEAST, PRICE_MOST],
+    ] {
+        let case = priced(&prices);
+        let mut most = i64::MIN;
+        for number in 0..125 {
+            let list = [number / 25, number / 5 % 5, number % 5];
+            if let Verdict::Passes { profit } = check(&case, &list).unwrap() {
+                assert_eq!(profit, earned(&case, &list), "{prices:?} {list:?}");
+                most = most.max(profit);
+            }
+        }
+        let plan = best(&case).unwrap();
+        assert_eq!((plan.profit, earned(&case, &plan.outputs)), (most, most), "{prices:?}");
+    }
+}
+
+/// What a list earns in half-mills.
+fn earned(case: &Case, list: &[u16]) -> i64 {
+    let mut before = case.initial;
+    let mut profit = 0;
+    for (&price, &output) in case.prices.iter().zip(list) {
+        profit += i64::from(price - case.variable) * i64::from(before + output);
+        profit -= 2 * i64::from(case.fixed) * i64::from(output > 0);
+        profit -= 2 * i64::from(case.startcost) * i64::from(before == 0 && output > 0);
+        profit -= 2 * i64::from(case.stopcost) * i64::from(before > 0 && output == 0);
+        before = output;
+    }
+    profit
+}
+
+#[test]
+fn stored_day_below_0() {
+    let case = read(BELOW_ZERO).unwrap();
+    assert_eq!(write(&case).unwrap(), BELOW_ZERO);
+    let plan = best(&case).unwrap();
+    assert_eq!(plan.profit, earned(&case, &plan.outputs));
+    assert_eq!(check(&case, &plan.outputs), Ok(Verdict::Passes { profit: plan.profit }));
+    // an hour that is ordered on-line below 0, and hours off-line though nothing orders it
+    let hours = || case.prices.iter().zip(&case.orders).zip(&plan.outputs);
+    assert!(hours().any(|((&price, &order), &output)| price < 0 && order == ON && output > 0));
+    assert!(hours().any(|((&price, &order), &output)| price < 0 && order == FREE && output == 0));
+    assert!(case.prices.iter().any(|&price| price > 65_535));
+}
+
 #[test]
 fn entries_past_a_count_are_disregarded() {
     let case = read(CASE_7).unwrap();
     let mut other = case;
     other.rise[2..].fill(9);
     other.fall[2..].fill(9);
-    other.prices[3..].fill(9);
+    other.prices[3..].fill(PRICE_LEAST - 1);
     other.orders[3..].fill(9);
     assert_ne!(other, case);
     assert_eq!(write(&other).unwrap(), CASE_7);

@@ -1,7 +1,7 @@
 //! The better of two lists: which one, what it earns, and that it comes back as it was lent.
 
 use giqapsun::boundary::{giqapsun_better, Choice};
-use giqapsun::{best, better, check, compare, read, Case, Comparison, Verdict};
+use giqapsun::{best, better, check, compare, read, Case, Comparison, Verdict, PRICE_LEAST, PRICE_MOST};
 
 const CASE_7: &[u8] = include_bytes!("../../../cases/case7.case");
 const SOURCE: &[u8] = include_bytes!("../../../cases/source.case");
@@ -16,7 +16,7 @@ const BROKEN: [u16; 3] = [0, 0, 0];
 const OTHER_BROKEN: [u16; 3] = [2, 0, 0];
 
 /// Case 7 at this price in every hour.
-fn priced(price: u16) -> Case {
+fn priced(price: i32) -> Case {
     let mut case = read(CASE_7).unwrap();
     case.prices[..3].fill(price);
     case
@@ -71,6 +71,10 @@ fn the_higher_profit_wins() {
     wins(&priced(5), &BEST, &LOW, -53);
     wins(&priced(5), &LOW, &HIGH, -71);
     wins(&priced(11), &HIGH, &LOW, 12);
+    // 13 and 18 half-megawatt-hours, below 0 and in a spike
+    wins(&priced(-5), &LOW, &HIGH, -201);
+    wins(&priced(PRICE_LEAST), &LOW, &HIGH, -130_000_136);
+    wins(&priced(PRICE_MOST), &HIGH, &LOW, 179_999_814);
 }
 
 #[test]
@@ -136,7 +140,7 @@ fn the_best_list_is_not_beaten() {
     let plan = best(&case).unwrap();
     wins(&case, &plan.outputs, &[120; 24], plan.profit);
     // over case 7's three hours, every list up to the capacity
-    for price in [5, 10, 11, 30] {
+    for price in [-1_000, 0, 5, 10, 11, 30, 80_000] {
         let case = priced(price);
         let plan = best(&case).unwrap();
         for number in 0..125 {

@@ -1,9 +1,13 @@
-//! Refusals 1 to 11, and what each call leaves in lent memory.
+//! Every refusal, and what each call leaves in lent memory.
 
 use giqapsun::boundary::{giqapsun_best, giqapsun_better, giqapsun_read, giqapsun_write, Choice};
-use giqapsun::{best, better, check, compare, read, write, Case, Refusal, FILE_MOST, HOURS, ON, WORK};
+use giqapsun::{
+    best, better, check, compare, read, write, Case, Refusal, FILE_MOST, HOURS, ON, PRICE_LEAST, PRICE_MOST,
+    WORK,
+};
 
 const CASE_7: &[u8] = include_bytes!("../../../cases/case7.case");
+const OLD_CASE_7: &[u8] = include_bytes!("../../../cases/old/case7.case");
 
 /// Case 7 with a change.
 fn changed(change: impl FnOnce(&mut Case)) -> Case {
@@ -12,7 +16,7 @@ fn changed(change: impl FnOnce(&mut Case)) -> Case {
     case
 }
 
-/// An example of each of the refusals 2 to 8.
+/// Examples of each refusal of a record.
 fn refused_cases() -> Vec<(u32, Case)> {
     vec![
         (2, changed(|case| case.hours = 0)),
@@ -22,44 +26,108 @@ fn refused_cases() -> Vec<(u32, Case)> {
         (3, changed(|case| case.minimum = 5)),
         (4, changed(|case| case.rampup = 0)),
         (5, changed(|case| case.variable = 1_000_001)),
+        (5, changed(|case| case.variable = -1)),
+        (5, changed(|case| case.fixed = i32::MIN)),
+        (5, changed(|case| case.startcost = 100_000_001)),
+        (5, changed(|case| case.stopcost = -1)),
         (6, changed(|case| case.rise[0] = 2)),
         (7, changed(|case| case.initial = 1)),
         (8, changed(|case| case.orders[2] = 3)),
+        (13, changed(|case| case.prices[0] = PRICE_LEAST - 1)),
+        (13, changed(|case| case.prices[2] = PRICE_MOST + 1)),
+        (13, changed(|case| case.prices[1] = i32::MIN)),
+        (13, changed(|case| case.prices[1] = i32::MAX)),
+        // the order of the tests
+        (8, changed(|case| (case.orders[2], case.prices[0]) = (3, PRICE_MOST + 1))),
+        (5, changed(|case| (case.variable, case.prices[0]) = (-1, PRICE_MOST + 1))),
     ]
 }
 
-/// The file of case 7 with other bytes at an offset.
-fn file_with(offset: usize, bytes: &[u8]) -> Vec<u8> {
-    let mut file = CASE_7.to_vec();
+/// A file with other bytes at an offset.
+fn file_with(file: &[u8], offset: usize, bytes: &[u8]) -> Vec<u8> {
+    let mut file = file.to_vec();
     file[offset..offset + bytes.len()].copy_from_slice(bytes);
     file
 }
 
-/// An example of each of the refusals 1 to 8.
+/// Examples of each refusal of a file of form 2.
 fn refused_files() -> Vec<(u32, Vec<u8>)> {
+    let with = |offset, bytes: &[u8]| file_with(CASE_7, offset, bytes);
     vec![
         (1, Vec::new()),
         (1, CASE_7[..15].to_vec()),
-        (1, CASE_7[..64].to_vec()),
+        (1, CASE_7[..19].to_vec()),
+        (1, CASE_7[..76].to_vec()),
         (1, [CASE_7, &[0]].concat()),
-        (1, file_with(0, &[20])),
-        (2, file_with(14, &[4])[..60].to_vec()),
-        (3, file_with(16, &[1])),
-        (4, file_with(20, &[0])),
-        (5, file_with(28, &1_000_001u32.to_le_bytes())),
-        (6, file_with(48, &[2])),
-        (7, file_with(44, &[1])),
-        (8, file_with(58, &[3])),
+        (1, with(0, &[16])),
+        (1, with(0, &[18])),
+        (1, with(16, &[74])),
+        (2, with(14, &[14, 0, 74, 0, 3])),
+        // a form section of three bytes and one of none, whatever they hold
+        (2, [&with(18, &[3])[..], &[0]].concat()),
+        (2, with(18, &[0])[..75].to_vec()),
+        (12, with(75, &[1])),
+        (12, with(75, &[3])),
+        (12, with(75, &[2, 1])),
+        // an unknown form is measured by the lengths of form 2, and refused before the record is
+        (2, with(14, &[9, 0, 69, 0, 2, 0])[..71].to_vec()),
+        (12, file_with(&with(75, &[3]), 20, &[1])),
+        (3, with(20, &[1])),
+        (4, with(24, &[0])),
+        (5, with(32, &1_000_001u32.to_le_bytes())),
+        (5, with(36, &0x8000_0000u32.to_le_bytes())),
+        (5, with(44, &u32::MAX.to_le_bytes())),
+        (6, with(52, &[2])),
+        (7, with(48, &[1])),
+        (8, with(64, &[3])),
+        (13, with(60, &(PRICE_LEAST - 1).to_le_bytes())),
+        (13, with(70, &(PRICE_MOST + 1).to_le_bytes())),
+        (8, file_with(&with(60, &(PRICE_MOST + 1).to_le_bytes()), 74, &[3])),
+    ]
+}
+
+/// Examples of each refusal of a file of the old form.
+fn refused_old_files() -> Vec<(u32, Vec<u8>)> {
+    let with = |offset, bytes: &[u8]| file_with(OLD_CASE_7, offset, bytes);
+    vec![
+        (1, OLD_CASE_7[..15].to_vec()),
+        (1, OLD_CASE_7[..64].to_vec()),
+        (1, [OLD_CASE_7, &[0]].concat()),
+        (1, with(0, &[20])),
+        (1, with(0, &[20])[..16].to_vec()),
+        (2, with(14, &[4])[..60].to_vec()),
+        (3, with(16, &[1])),
+        (4, with(20, &[0])),
+        (5, with(28, &1_000_001u32.to_le_bytes())),
+        (5, with(28, &0x8000_0000u32.to_le_bytes())),
+        (6, with(48, &[2])),
+        (7, with(44, &[1])),
+        (8, with(58, &[3])),
     ]
 }
 
 #[test]
 fn of_a_file() {
-    for (number, file) in refused_files() {
-        assert_eq!(read(&file), Err(Refusal::from_number(number).unwrap()));
+    for (number, file) in refused_files().into_iter().chain(refused_old_files()) {
+        assert_eq!(read(&file), Err(Refusal::from_number(number).unwrap()), "{file:?}");
         // SAFETY: pointer and length of one slice.
         let reading = unsafe { giqapsun_read(file.as_ptr(), file.len()) };
         assert_eq!((reading.number, reading.c), (number, Case::default()));
+    }
+}
+
+/// The least and the most of every price and cost are accepted.
+#[test]
+fn limits() {
+    for case in [
+        changed(|case| case.prices[..3].fill(PRICE_LEAST)),
+        changed(|case| case.prices[..3].fill(PRICE_MOST)),
+        changed(|case| (case.variable, case.fixed, case.startcost, case.stopcost) = (0, 0, 0, 0)),
+        changed(|case| case.variable = 1_000_000),
+        changed(|case| (case.fixed, case.startcost, case.stopcost) = (100_000_000, 100_000_000, 100_000_000)),
+    ] {
+        assert_eq!(read(&write(&case).unwrap()), Ok(case));
+        assert!(best(&case).is_ok());
     }
 }
 
@@ -166,9 +234,9 @@ fn searching_keeps_to_its_memory() {
 #[test]
 fn numbers() {
     assert_eq!(Refusal::from_number(0), None);
-    assert_eq!(Refusal::from_number(12), Some(Refusal::Unknown(12)));
-    assert_eq!(Refusal::Unknown(12).number(), 12);
-    assert_eq!(Refusal::ALL.map(Refusal::number), [1, 2, 3, 4, 5, 6, 7, 8, 9, 10, 11]);
+    assert_eq!(Refusal::from_number(14), Some(Refusal::Unknown(14)));
+    assert_eq!(Refusal::Unknown(14).number(), 14);
+    assert_eq!(Refusal::ALL.map(Refusal::number), [1, 2, 12, 3, 4, 5, 6, 7, 8, 13, 9, 10, 11]);
     for refusal in Refusal::ALL {
         assert_eq!(Refusal::from_number(refusal.number()), Some(refusal));
     }
