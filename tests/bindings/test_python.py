@@ -1,5 +1,5 @@
-"""The Python module: known days, the source's day, the better of two lists, refusals, numbers that fit no record, the
-library that it loads, and the module as it is installed."""
+"""The Python module: known days, the source's day, both forms of a file, prices below 0, the better of two lists,
+refusals, numbers that fit no record, the library that it loads, and the module as it is installed."""
 
 import doctest
 import os
@@ -23,6 +23,9 @@ from giqapsun import best, better, check, compare, read, write
 ROOT = Path(__file__).resolve().parents[2]
 CASE_7 = (ROOT / "cases/case7.case").read_bytes()
 SOURCE = (ROOT / "cases/source.case").read_bytes()
+BELOW_ZERO = (ROOT / "cases/below_zero.case").read_bytes()
+OLD_CASE_7 = (ROOT / "cases/old/case7.case").read_bytes()
+OLD_SOURCE = (ROOT / "cases/old/source.case").read_bytes()
 SOURCE_LIST = [
     120, 112, 70, 30, 0, 0, 0, 37, 75, 112, 172, 232, 292, 294, 294, 294, 294, 294, 294, 294, 294, 244, 194,
     144,
@@ -79,6 +82,34 @@ class Days(unittest.TestCase):
         self.assertEqual(check(case, plan.outputs), Passes(plan.profit))
         self.assertEqual(write(case), SOURCE)
 
+    def test_old_files(self):
+        """An old file is the same case, and comes back in form 2."""
+        for old, file in ((OLD_CASE_7, CASE_7), (OLD_SOURCE, SOURCE)):
+            self.assertEqual(read(old), read(file))
+            self.assertEqual(write(read(old)), file)
+
+    def test_below_zero(self):
+        """The stored day with prices below 0 and a spike, and what its best list earns."""
+        case = read(BELOW_ZERO)
+        self.assertEqual((min(case.prices), max(case.prices)), (-90_000, 2_750_000))
+        self.assertEqual(write(case), BELOW_ZERO)
+        plan = best(case)
+        self.assertEqual(check(case, plan.outputs), Passes(1_762_365_500))
+        self.assertEqual(plan.profit, 1_762_365_500)
+        hours = list(zip(case.prices, case.orders, plan.outputs))
+        self.assertTrue(any(price < 0 and order == giqapsun.ON and output > 0 for price, order, output in hours))
+        self.assertTrue(any(price < 0 and order == giqapsun.FREE and output == 0 for price, order, output in hours))
+
+    def test_limits_of_a_price(self):
+        for price in (giqapsun.PRICE_LEAST, -1, 0, 65_536, giqapsun.PRICE_MOST):
+            case = replace(read(CASE_7), prices=[price] * 3)
+            self.assertEqual(read(write(case)), case)
+            # 13 half-megawatt-hours at the price less F, and A three times
+            self.assertEqual(check(case, [2, 2, 2]), Passes(13 * (price - 10) - 6))
+            verdicts = [check(case, outputs) for outputs in product(range(5), repeat=3)]
+            passed = [verdict.profit for verdict in verdicts if isinstance(verdict, Passes)]
+            self.assertEqual(best(case).profit, max(passed))
+
     def test_bytes_of_any_kind(self):
         for kind in (bytes, bytearray, memoryview):
             self.assertEqual(write(read(kind(CASE_7))), CASE_7)
@@ -130,6 +161,11 @@ class Pairs(unittest.TestCase):
         case.prices = [11] * 3
         self.given(case, self.LOW, self.HIGH, Second(12))
         self.given(case, self.HIGH, self.LOW, First(12))
+        # below 0 the one that gives less, in a spike the one that gives more
+        case.prices = [-5] * 3
+        self.given(case, self.LOW, self.HIGH, First(13 * -15 - 6))
+        case.prices = [giqapsun.PRICE_MOST] * 3
+        self.given(case, self.LOW, self.HIGH, Second(18 * 9_999_990 - 6))
 
     def test_equal_profits(self):
         """At a price of F a list earns what its hours on-line cost; the first hour that differs decides."""
@@ -193,9 +229,29 @@ class Refusals(unittest.TestCase):
 
     def test_of_a_file(self):
         self.refused(1, read, b"")
-        self.refused(1, read, CASE_7[:-1])
-        self.refused(2, read, CASE_7[:14] + b"\x04\x00" + CASE_7[16:60])
-        self.refused(3, read, CASE_7[:16] + b"\x01" + CASE_7[17:])
+        for data in (CASE_7, OLD_CASE_7):
+            self.refused(1, read, data[:-1])
+            self.refused(1, read, data[:15])
+        self.refused(1, read, CASE_7[:19])
+        self.refused(2, read, OLD_CASE_7[:14] + b"\x04\x00" + OLD_CASE_7[16:60])
+        self.refused(3, read, OLD_CASE_7[:16] + b"\x01" + OLD_CASE_7[17:])
+
+    def test_of_a_form(self):
+        """2, then 12, then the numbers of the record; a cost of 2^31 or more is one below 0."""
+        self.refused(2, read, CASE_7[:18] + b"\x03" + CASE_7[19:] + b"\x00")
+        self.refused(2, read, CASE_7[:18] + b"\x00" + CASE_7[19:75])
+        for form in (0, 1, 3, 258, 65_535):
+            unknown = CASE_7[:75] + form.to_bytes(2, "little")
+            self.refused(12, read, unknown)
+            self.refused(12, read, unknown[:20] + b"\x01" + unknown[21:])
+        self.refused(3, read, CASE_7[:20] + b"\x01" + CASE_7[21:])
+        for data, place in ((CASE_7, 36), (OLD_CASE_7, 32)):
+            for cost in (100_000_001, 2**31, 2**32 - 1):
+                self.refused(5, read, data[:place] + cost.to_bytes(4, "little") + data[place + 4 :])
+        for price in (giqapsun.PRICE_LEAST - 1, giqapsun.PRICE_MOST + 1, -(2**31), 2**31 - 1):
+            beyond = CASE_7[:65] + price.to_bytes(4, "little", signed=True) + CASE_7[69:]
+            self.refused(13, read, beyond)
+            self.refused(8, read, beyond[:74] + b"\x03" + beyond[75:])
 
     def test_of_a_record(self):
         case = read(CASE_7)
@@ -208,9 +264,14 @@ class Refusals(unittest.TestCase):
             (3, replace(case, minimum=5)),
             (4, replace(case, rampup=0)),
             (5, replace(case, variable=1_000_001)),
+            (5, replace(case, variable=-1)),
+            (5, replace(case, stopcost=-(2**31))),
             (6, replace(case, rise=[2, 2])),
             (7, replace(case, initial=1)),
             (8, replace(case, orders=[0, 0, 3])),
+            (8, replace(case, orders=[0, 0, 3], prices=[5, 5, giqapsun.PRICE_MOST + 1])),
+            (13, replace(case, prices=[5, 5, giqapsun.PRICE_MOST + 1])),
+            (13, replace(case, prices=[giqapsun.PRICE_LEAST - 1, 5, 5])),
         ]:
             with self.subTest(number=number):
                 self.refused(number, write, changed)
@@ -235,7 +296,8 @@ class Refusals(unittest.TestCase):
 
     def test_text(self):
         self.assertEqual(str(Refusal(8)), "refused 8: an order byte above 2")
-        self.assertEqual(Refusal(12).number, 12)
+        self.assertEqual(str(Refusal(12)), "refused 12: form number not 2")
+        self.assertEqual((Refusal(14).number, Refusal(14).text), (14, "a number that is not in the refusal list"))
         self.assertEqual(pickle.loads(pickle.dumps(Refusal(3))).number, 3)
 
     def test_texts_are_those_of_the_tables(self):
@@ -255,15 +317,24 @@ class Widths(unittest.TestCase):
             {"capacity": -1},
             {"capacity": 4.0},
             {"capacity": True},
-            {"variable": 2**32},
+            {"variable": 2**31},
+            {"fixed": -(2**31) - 1},
             {"rise": [1, 65_536]},
-            {"prices": [5, -5, 5]},
+            {"rise": [-1, 2]},
+            {"prices": [5, 2**31, 5]},
+            {"prices": [5, -(2**31) - 1, 5]},
+            {"prices": [5, 5.0, 5]},
             {"orders": [0, 0, 256]},
+            {"orders": [0, 0, -1]},
             {"orders": [0, 0]},
         ):
             with self.subTest(**changed):
                 for call in (write, best):
                     self.assertRaises(ValueError, call, replace(case, **changed))
+        with self.assertRaises(ValueError) as caught:
+            write(replace(case, prices=[5, 5, -(2**40)]))
+        fits = "-1099511627776 is not a whole number from -2147483648 to 2147483647"
+        self.assertEqual(str(caught.exception), f"prices: {fits}")
 
     def test_of_a_list(self):
         case = read(CASE_7)
@@ -386,8 +457,9 @@ class Library(unittest.TestCase):
     def test_complaints(self):
         calls = ("read", "write", "check", "best")
         for functions, lacks, reason in (
-            (["giqapsun_read"], "giqapsun_read_1", "it is no library of layout 1"),
-            ([f"giqapsun_{call}_1" for call in calls], "giqapsun_better_1", "it is of an earlier version"),
+            (["giqapsun_read"], "giqapsun_read_2", "it is no library of layout 2"),
+            ([f"giqapsun_{call}_1" for call in calls], "giqapsun_read_2", "it is no library of layout 2"),
+            ([f"giqapsun_{call}_2" for call in calls], "giqapsun_better_2", "it is of an earlier version"),
         ):
             text = "".join(f"int {function}(void) {{ return 0; }}\n" for function in functions)
             (self.folder / "stub.c").write_text(text)

@@ -2,7 +2,8 @@
 against the rules of the day, the list that earns most is found, and the better of two lists is told.
 
 Outputs are whole megawatts, prices and costs mills (thousandths of a dollar), profits half-mills (2,000 to
-the dollar, exact). Hours are counted from 1; hour 0 is the one before the day.
+the dollar, exact). A price may be below 0: it is from PRICE_LEAST to PRICE_MOST. Hours are counted from 1;
+hour 0 is the one before the day.
 
     import giqapsun
 
@@ -25,18 +26,19 @@ import ctypes
 import operator
 from collections.abc import Iterable, Sequence
 from dataclasses import dataclass, field, fields
+from functools import lru_cache
 from typing import SupportsIndex, TypeVar
 
-from ._boundary import FILE_MOST, HOURS, STAGES, WORK, LibraryError, calls, library_file
+from ._boundary import FILE_MOST, HOURS, PRICE_LEAST, PRICE_MOST, STAGES, WORK, LibraryError, calls, library_file
 from ._boundary import Case as _Case
 from ._texts import REFUSALS, RULES
 
-__version__ = "1.1.0"
+__version__ = "2.0.0"
 
 __all__ = [
     "Case", "Passes", "Breaks", "Plan", "First", "Second", "Neither", "Refusal", "LibraryError",
     "read", "write", "check", "best", "compare", "better", "library_file",
-    "FREE", "ON", "OFF", "STAGES", "HOURS", "REFUSALS", "RULES",
+    "FREE", "ON", "OFF", "STAGES", "HOURS", "PRICE_LEAST", "PRICE_MOST", "REFUSALS", "RULES",
 ]
 
 # orders of an hour
@@ -73,7 +75,7 @@ class Case:
     elapsed: int = 0  # h, hours on-line or off-line before hour 1
     rise: list[int] = field(default_factory=list)  # PU, MW
     fall: list[int] = field(default_factory=list)  # PD, MW
-    prices: list[int] = field(default_factory=list)  # mills per MWh, that of hour k at k - 1
+    prices: list[int] = field(default_factory=list)  # mills per MWh, below 0 too, that of hour k at k - 1
     orders: list[int] = field(default_factory=list)  # FREE, ON or OFF, that of hour k at k - 1
 
 
@@ -130,7 +132,7 @@ _Other = TypeVar("_Other", bound=Sequence[SupportsIndex])
 
 
 def read(file: bytes | bytearray | memoryview) -> Case:
-    """The case in the bytes of a file; refusals 1 to 8."""
+    """The case in the bytes of a file, of form 2 or of the old form; refusals 1 to 8, 12 and 13."""
     file = bytes(memoryview(file))
     reading = calls().read(_lent(ctypes.c_uint8, file), len(file))
     _test(reading.number)
@@ -142,7 +144,7 @@ def read(file: bytes | bytearray | memoryview) -> Case:
 
 
 def write(case: Case) -> bytes:
-    """The bytes of a case's file; refusals 2 to 8."""
+    """The bytes of a case's file, of form 2; refusals 2 to 8 and 13."""
     lent = _lent(ctypes.c_uint8, bytes(FILE_MOST))
     written = calls().write(_record(case), lent, FILE_MOST)
     _test(written.number)
@@ -150,15 +152,15 @@ def write(case: Case) -> bytes:
 
 
 def check(case: Case, outputs: Iterable[SupportsIndex]) -> Passes | Breaks:
-    """Passes or Breaks, for a list of outputs; refusals 2 to 9."""
-    listed = _entries("outputs", outputs, _OUTPUT_MOST)
+    """Passes or Breaks, for a list of outputs; refusals 2 to 8, 13 and 9."""
+    listed = _entries("outputs", outputs, ctypes.c_uint16)
     verdict = calls().check(_record(case), _lent(ctypes.c_uint16, listed), len(listed))
     _test(verdict.number)
     return Breaks(verdict.hour, verdict.rule) if verdict.rule else Passes(verdict.profit)
 
 
 def best(case: Case) -> Plan:
-    """The list that keeps every rule and earns most; refusals 2 to 8 and 11.
+    """The list that keeps every rule and earns most; refusals 2 to 8, 13 and 11.
 
     Among equal earners it is the list that is lower at the first hour where two differ.
     """
@@ -171,7 +173,7 @@ def best(case: Case) -> Plan:
 def compare(
     case: Case, first: Sequence[SupportsIndex], second: Sequence[SupportsIndex]
 ) -> First | Second | Neither:
-    """First, Second or Neither, for two lists of outputs; refusals 2 to 9.
+    """First, Second or Neither, for two lists of outputs; refusals 2 to 8, 13 and 9.
 
     A list that passes beats one that does not; then the higher profit wins; then the lower output at the first
     hour where they differ. Identical lists give First.
@@ -187,7 +189,7 @@ def compare(
 
 def better(case: Case, first: _One, second: _Other) -> _One | _Other:
     """The better of two lists by `compare`: the very object that was given, or first[:0] where neither passes;
-    refusals 2 to 9."""
+    refusals 2 to 8, 13 and 9."""
     match compare(case, first, second):
         case First():
             return first
@@ -199,18 +201,17 @@ def better(case: Case, first: _One, second: _Other) -> _One | _Other:
 _LISTS = ("rise", "fall", "prices", "orders")
 _NUMBERS = tuple(f.name for f in fields(Case) if f.name not in _LISTS)
 _KINDS = dict(_Case._fields_)
-_OUTPUT_MOST = 2**16 - 1
 
 
 def _record(case):
     """The record of a case. A number that does not fit its width is a ValueError."""
     record = _Case()
     for name in _NUMBERS:
-        setattr(record, name, _number(name, getattr(case, name), _most(_KINDS[name])))
+        setattr(record, name, _number(name, getattr(case, name), _KINDS[name]))
     counts = {}
     for name in _LISTS:
         room = getattr(record, name)
-        entries = _entries(name, getattr(case, name), _most(room._type_))
+        entries = _entries(name, getattr(case, name), room._type_)
         counts[name] = len(entries)
         # a longer list cannot be held; its count alone is refused
         room[: min(len(entries), len(room))] = entries[: len(room)]
@@ -220,17 +221,20 @@ def _record(case):
     return record
 
 
-def _most(kind):
-    """The largest number of an unsigned width."""
-    return 256 ** ctypes.sizeof(kind) - 1
+@lru_cache(maxsize=None)
+def _limits(kind):
+    """The least and the largest number of a width."""
+    numbers = 256 ** ctypes.sizeof(kind)
+    least = -numbers // 2 if kind(-1).value < 0 else 0
+    return least, least + numbers - 1
 
 
-def _entries(name, values, most):
+def _entries(name, values, kind):
     try:
         listed = list(values)
     except TypeError:
         raise ValueError(f"{name}: {values!r} is not a list of whole numbers") from None
-    return [_number(name, value, most) for value in listed]
+    return [_number(name, value, kind) for value in listed]
 
 
 def _outputs(name, values):
@@ -239,17 +243,18 @@ def _outputs(name, values):
         values[:0]
     except (TypeError, LookupError):
         raise ValueError(f"{name}: {values!r} is not a list of whole numbers") from None
-    return _entries(name, values, _OUTPUT_MOST)
+    return _entries(name, values, ctypes.c_uint16)
 
 
-def _number(name, value, most):
-    """A whole number of any kind that says what it is as an index, but no truth value."""
+def _number(name, value, kind):
+    """A whole number of any kind that says what it is as an index, but no truth value; one that fits the width."""
     try:
         number = None if isinstance(value, bool) else operator.index(value)
     except TypeError:
         number = None
-    if number is None or not 0 <= number <= most:
-        raise ValueError(f"{name}: {value!r} is not a whole number from 0 to {most}")
+    least, most = _limits(kind)
+    if number is None or not least <= number <= most:
+        raise ValueError(f"{name}: {value!r} is not a whole number from {least} to {most}")
     return number
 
 

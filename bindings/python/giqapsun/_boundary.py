@@ -8,10 +8,12 @@ from pathlib import Path
 STAGES = 8
 HOURS = 48
 WORK = 8192
-FILE_MOST = 48 + 2 * STAGES * 2 + 3 * HOURS
+FILE_MOST = 20 + 32 + 2 * STAGES * 2 + 5 * HOURS + 2
+PRICE_LEAST = -10_000_000
+PRICE_MOST = 10_000_000
 
 # the number of the record's layout, which ends the name of each call
-LAYOUT = 1
+LAYOUT = 2
 
 
 class LibraryError(OSError):
@@ -30,15 +32,15 @@ class Case(ctypes.Structure):
         ("rampdown", ctypes.c_uint16),
         ("minup", ctypes.c_uint16),
         ("mindown", ctypes.c_uint16),
-        ("variable", ctypes.c_uint32),
-        ("fixed", ctypes.c_uint32),
-        ("startcost", ctypes.c_uint32),
-        ("stopcost", ctypes.c_uint32),
+        ("variable", ctypes.c_int32),
+        ("fixed", ctypes.c_int32),
+        ("startcost", ctypes.c_int32),
+        ("stopcost", ctypes.c_int32),
         ("initial", ctypes.c_uint16),
         ("elapsed", ctypes.c_uint16),
         ("rise", ctypes.c_uint16 * STAGES),
         ("fall", ctypes.c_uint16 * STAGES),
-        ("prices", ctypes.c_uint16 * HOURS),
+        ("prices", ctypes.c_int32 * HOURS),
         ("orders", ctypes.c_uint8 * HOURS),
         ("rises", ctypes.c_size_t),
         ("falls", ctypes.c_size_t),

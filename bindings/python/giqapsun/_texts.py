@@ -1,16 +1,18 @@
 """The words for each number that an answer can hold, those of texts/refusals.tsv and texts/rules.tsv."""
 
-# the conditions of the refusal list
+# the conditions of the refusal list, in the order in which they are tested
 REFUSALS: dict[int, str] = {
     1: "file under 16 bytes, or pairs not as laid down",
     2: "a section length, or a count in a record, not as laid down",
+    12: "form number not 2",
     3: "minimum output 0 or above capacity, or capacity above 400",
     4: "RU or RD outside 1 to 400, or a minimum time outside 1 to 8",
-    5: "F above 1,000,000, or A, B or C above 100,000,000",
+    5: "F not from 0 to 1,000,000, or A, B or C not from 0 to 100,000,000",
     6: "PU not strictly rising from 1 or more to the minimum output, "
        "or PD not strictly falling from the minimum output to 1 or more",
     7: "h outside 1 to 10,000; p(0) neither 0 nor from minimum to capacity; p(0) above 0 with h below UD",
     8: "an order byte above 2",
+    13: "a price outside -10,000,000 to 10,000,000",
     9: "checked list not of T outputs",
     10: "lent memory short: 8,192 signed 64-bit numbers to work in, T outputs, or the written file's bytes",
     11: "best list asked for, and no list keeps every rule",
