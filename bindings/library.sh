@@ -3,6 +3,9 @@
 # unless it is newer there than every file of crates/. What goes wrong is one line, and ends the script that sources
 # this.
 
+# the number of the record's layout, that of include/giqapsun.h
+layout=2
+
 # broken MESSAGE: prints the line and ends
 broken() {
     echo "$1" >&2
@@ -17,11 +20,11 @@ quietly() {
     "$@" >"$log" 2>&1 || broken "failed: $* (see $log)"
 }
 
-# shared FOLDER: links the library as libgiqapsun.so.1, that of layout 1, with libgiqapsun.so leading to it
+# shared FOLDER: links the library as libgiqapsun.so with the layout's number, and libgiqapsun.so leading to it
 shared() {
-    quietly shared gcc -shared -Wl,-soname,libgiqapsun.so.1 -Wl,--no-undefined \
-        -Wl,--whole-archive "$GIQAPSUN_LIB_DIR/libgiqapsun.a" -Wl,--no-whole-archive -o "$1/libgiqapsun.so.1"
-    ln -sf libgiqapsun.so.1 "$1/libgiqapsun.so"
+    quietly shared gcc -shared "-Wl,-soname,libgiqapsun.so.$layout" -Wl,--no-undefined \
+        -Wl,--whole-archive "$GIQAPSUN_LIB_DIR/libgiqapsun.a" -Wl,--no-whole-archive -o "$1/libgiqapsun.so.$layout"
+    ln -sf "libgiqapsun.so.$layout" "$1/libgiqapsun.so"
 }
 
 if [ -z "${GIQAPSUN_LIB_DIR:-}" ]; then
@@ -37,8 +40,8 @@ fi
     broken "no libgiqapsun.a in $GIQAPSUN_LIB_DIR, the folder that GIQAPSUN_LIB_DIR names"
 symbols=$(nm "$GIQAPSUN_LIB_DIR/libgiqapsun.a" 2>&1 || true)
 for call in read write check best better; do
-    grep -q " T giqapsun_${call}_1$" <<<"$symbols" ||
-        broken "$GIQAPSUN_LIB_DIR/libgiqapsun.a has no function giqapsun_${call}_1"
+    grep -q " T giqapsun_${call}_$layout$" <<<"$symbols" ||
+        broken "$GIQAPSUN_LIB_DIR/libgiqapsun.a has no function giqapsun_${call}_$layout"
 done
 GIQAPSUN_LIB_DIR=$(cd "$GIQAPSUN_LIB_DIR" && pwd)
 export GIQAPSUN_LIB_DIR
