@@ -1,4 +1,5 @@
-"""What the program best_day prints for an input, byte for byte (document 01, "A program reads a case")."""
+"""What the program best_day prints for an input, byte for byte (document 01, "A program reads a case"; request F-2 for
+the two forms of a file)."""
 
 import os
 import struct
@@ -8,9 +9,16 @@ from pathlib import Path
 
 ROOT = Path(__file__).resolve().parents[2]
 PROGRAM = os.environ.get("GIQAPSUN_BEST_DAY", str(ROOT / "target/bin/best_day"))
-CASE7 = (ROOT / "cases/case7.case").read_bytes()
-SOURCE = (ROOT / "cases/source.case").read_bytes()
+CASES = ROOT / "cases"
+CASE7 = (CASES / "case7.case").read_bytes()
+SOURCE = (CASES / "source.case").read_bytes()
+BELOW_ZERO = (CASES / "below_zero.case").read_bytes()
+OLD_CASE7 = (CASES / "old/case7.case").read_bytes()
+OLD_SOURCE = (CASES / "old/source.case").read_bytes()
 DAY7 = b"profit -53\n1 2 5\n2 1 3\n3 0 1\n"
+
+# the price furthest from 0 either way
+MOST = 10_000_000
 
 
 def printed(data):
@@ -20,59 +28,113 @@ def printed(data):
 
 
 def long_hours(size):
-    """A file of so many bytes whose chain holds: the sections of case 7, with an hours section up to the file's end."""
+    """A file of so many bytes whose chain holds: the sections of case 7, with hours up to the form number."""
+    pairs = struct.pack("<10H", 20, 32, 52, 4, 56, 4, 60, size - 62, size - 2, 2)
+    return (pairs + CASE7[20:60]).ljust(size - 2, b"\0") + b"\2\0"
+
+
+def old_long_hours(size):
+    """The same in the old form, with hours up to the file's end."""
     pairs = struct.pack("<8H", 16, 32, 48, 4, 52, 4, 56, size - 56)
-    return (pairs + CASE7[16:]).ljust(size, b"\0")
+    return (pairs + OLD_CASE7[16:]).ljust(size, b"\0")
 
 
-def changed(place, form, value):
-    """The file of case 7 with one number changed."""
-    data = bytearray(CASE7)
+def changed(data, place, form, value):
+    """A file with one number changed."""
+    data = bytearray(data)
     struct.pack_into(form, data, place, value)
     return bytes(data)
+
+
+def priced(*prices):
+    """The file of case 7 with other prices."""
+    data = CASE7
+    for hour, price in enumerate(prices):
+        data = changed(data, 60 + 5 * hour, "<i", price)
+    return data
 
 
 class LimitTest(unittest.TestCase):
     """Inputs about the limit whose chain holds. Their hours are not 1 to 48 entries, so a file is refused by 2."""
 
     def test_up_to_the_limit_an_input_is_read_as_a_file(self):
-        for size in (203, 4095, 4096):
+        for size in (307, 4095, 4096):
             with self.subTest(size=size):
                 self.assertEqual(printed(long_hours(size)), b"refused 2\n")
+        for size in (203, 4095, 4096):
+            with self.subTest(old=size):
+                self.assertEqual(printed(old_long_hours(size)), b"refused 2\n")
 
     def test_above_the_limit_an_input_is_refused_by_1(self):
         for size in (4097, 5000, 65535):
-            with self.subTest(size=size):
-                self.assertEqual(printed(long_hours(size)), b"refused 1\n")
+            for data in (long_hours(size), old_long_hours(size)):
+                with self.subTest(size=size, first=data[0]):
+                    self.assertEqual(printed(data), b"refused 1\n")
 
     def test_a_case_with_bytes_after_it_is_refused_by_1(self):
-        for size in (66, 4096, 4097, 5000):
-            with self.subTest(size=size):
-                self.assertEqual(printed(CASE7.ljust(size, b"\0")), b"refused 1\n")
+        for data in (CASE7, OLD_CASE7):
+            for size in (len(data) + 1, 4096, 4097, 5000):
+                with self.subTest(first=data[0], size=size):
+                    self.assertEqual(printed(data.ljust(size, b"\0")), b"refused 1\n")
 
 
 class RefusalTest(unittest.TestCase):
     """One line with the number, of one digit or two."""
 
+    def refused(self, number, data):
+        """The line of a refusal."""
+        with self.subTest(number=number, data=data.hex()):
+            self.assertEqual(printed(data), b"refused %d\n" % number)
+
     def test_an_empty_input(self):
-        self.assertEqual(printed(b""), b"refused 1\n")
+        self.refused(1, b"")
 
     def test_an_input_that_is_cut(self):
-        for size in (1, 15, 16, len(CASE7) - 1):
-            with self.subTest(size=size):
-                self.assertEqual(printed(CASE7[:size]), b"refused 1\n")
+        for data in (CASE7, OLD_CASE7):
+            for size in (1, 15, 16, 19, 20, len(data) - 1):
+                self.refused(1, data[:size])
 
-    def test_each_number_from_3_to_8(self):
+    def test_a_first_offset_of_neither_form(self):
+        for data in (CASE7, OLD_CASE7):
+            for offset in (0, 4, 15, 17, 18, 19, 21, 24, 32, 36 - data[0], 256 + data[0]):
+                self.refused(1, changed(data, 0, "<H", offset))
+
+    def test_each_number_of_a_record_in_the_old_form(self):
         for number, place, form, value in [
-            (3, 18, "<H", 5), (4, 20, "<H", 0), (5, 28, "<I", 1000001),
+            (3, 18, "<H", 5), (4, 20, "<H", 0), (5, 28, "<I", 1000001), (5, 32, "<I", 2**31),
             (6, 48, "<H", 2), (7, 44, "<H", 1), (8, 58, "B", 3),
         ]:
-            with self.subTest(number=number):
-                self.assertEqual(printed(changed(place, form, value)), b"refused %d\n" % number)
+            self.refused(number, changed(OLD_CASE7, place, form, value))
+
+    def test_each_number_of_a_record_in_form_2(self):
+        for number, place, form, value in [
+            (3, 22, "<H", 5), (4, 24, "<H", 0), (5, 32, "<I", 1000001), (5, 36, "<I", 2**31), (5, 44, "<I", 2**32 - 1),
+            (6, 52, "<H", 2), (7, 48, "<H", 1), (8, 64, "B", 3), (13, 60, "<i", MOST + 1), (13, 65, "<i", -MOST - 1),
+            (13, 70, "<i", -(2**31)), (13, 70, "<i", 2**31 - 1),
+        ]:
+            self.refused(number, changed(CASE7, place, form, value))
+
+    def test_the_form_section(self):
+        for form in (0, 1, 3, 256 + 2, 65535):
+            unknown = changed(CASE7, 75, "<H", form)
+            self.refused(12, unknown)
+            # before every number of the record
+            self.refused(12, changed(unknown, 22, "<H", 5))
+        # of one byte, of three and of none: 2, whatever it holds
+        self.refused(2, changed(CASE7, 18, "<H", 1)[:-1])
+        self.refused(2, changed(CASE7, 18, "<H", 3) + b"\0")
+        self.refused(2, changed(CASE7, 18, "<H", 0)[:-2])
+
+    def test_an_unknown_form_is_measured_as_form_2(self):
+        # hours of 9 bytes, three entries of the old form
+        pairs = struct.pack("<10H", 20, 32, 52, 4, 56, 4, 60, 9, 69, 2)
+        for form in (2, 3):
+            self.refused(2, pairs + CASE7[20:60] + OLD_CASE7[56:] + form.to_bytes(2, "little"))
 
     def test_no_schedule(self):
         # on-line at 3 MW, ordered off-line in hour 1
-        self.assertEqual(printed(changed(58, "B", 2)), b"refused 11\n")
+        self.refused(11, changed(CASE7, 64, "B", 2))
+        self.refused(11, changed(OLD_CASE7, 58, "B", 2))
 
 
 class DayTest(unittest.TestCase):
@@ -81,31 +143,57 @@ class DayTest(unittest.TestCase):
     def test_case_7(self):
         self.assertEqual(printed(CASE7), DAY7)
 
+    def test_both_forms_print_the_same(self):
+        self.assertEqual(printed(OLD_CASE7), DAY7)
+        self.assertEqual(printed(OLD_SOURCE), printed(SOURCE))
+        # the greatest price of the old form, and an order
+        old = changed(changed(OLD_CASE7, 59, "<H", 65535), 58, "B", 1)
+        self.assertEqual(printed(old), printed(changed(priced(5, 65535, 5), 64, "B", 1)))
+
     def test_case_7_in_two_writes(self):
-        with subprocess.Popen([PROGRAM], stdin=subprocess.PIPE, stdout=subprocess.PIPE) as program:
-            for part in (CASE7[:20], CASE7[20:]):
-                program.stdin.write(part)
-                program.stdin.flush()
-            program.stdin.close()
-            self.assertEqual(program.stdout.read(), DAY7)
+        for data in (CASE7, OLD_CASE7):
+            with subprocess.Popen([PROGRAM], stdin=subprocess.PIPE, stdout=subprocess.PIPE) as program:
+                for part in (data[:20], data[20:]):
+                    program.stdin.write(part)
+                    program.stdin.flush()
+                program.stdin.close()
+                self.assertEqual(program.stdout.read(), DAY7)
 
     def test_a_profit_above_0(self):
         # three hours at 500 mills: 4, 4, 4 MW earn 490 * (7 + 8 + 8) - 6 half-mills
-        data = bytearray(CASE7)
-        for hour in range(3):
-            struct.pack_into("<H", data, 56 + 3 * hour, 500)
-        self.assertEqual(printed(bytes(data)), b"profit 11264\n1 4 7\n2 4 8\n3 4 8\n")
+        self.assertEqual(printed(priced(500, 500, 500)), b"profit 11264\n1 4 7\n2 4 8\n3 4 8\n")
+
+    def test_prices_below_0(self):
+        # 2, 1, 0 MW lose 12 * (5 + 3 + 1) + 4 + 4 half-mills at -2 mills
+        self.assertEqual(printed(priced(-2, -2, -2)), b"profit -116\n1 2 5\n2 1 3\n3 0 1\n")
+        # the last hour is worth going through one below 0
+        self.assertEqual(printed(priced(5, -20, 80000)), b"profit 639674\n1 3 6\n2 4 7\n3 4 8\n")
+
+    def test_prices_at_their_limits(self):
+        least, most = b"profit %d\n1 2 5\n2 1 3\n3 0 1\n", b"profit %d\n1 4 7\n2 4 8\n3 4 8\n"
+        self.assertEqual(printed(priced(-MOST, -MOST, -MOST)), least % (-9 * (MOST + 10) - 8))
+        self.assertEqual(printed(priced(MOST, MOST, MOST)), most % (23 * (MOST - 10) - 6))
+
+    def day(self, data, profit, initial):
+        """The outputs of a day of 24 hours; the profit and each line are as they have to be."""
+        lines = printed(data).decode("ascii").split("\n")
+        self.assertEqual((lines[0], lines[-1]), (f"profit {profit}", ""))
+        before, outputs = initial, []
+        for hour, line in enumerate(lines[1:-1], 1):
+            outputs.append(int(line.split(" ")[1]))
+            self.assertEqual(line, f"{hour} {outputs[-1]} {before + outputs[-1]}")
+            before = outputs[-1]
+        self.assertEqual(len(outputs), 24)
+        return outputs
 
     def test_the_source_day(self):
-        lines = printed(SOURCE).decode("ascii").split("\n")
-        self.assertEqual((lines[0], lines[-1]), ("profit 33546962", ""))
-        before = struct.unpack_from("<H", SOURCE, 44)[0]
-        hours = lines[1:-1]
-        self.assertEqual(len(hours), 24)
-        for hour, line in enumerate(hours, 1):
-            output = int(line.split(" ")[1])
-            self.assertEqual(line, f"{hour} {output} {before + output}")
-            before = output
+        for data in (SOURCE, OLD_SOURCE):
+            self.day(data, 33546962, 170)
+
+    def test_the_stored_day_below_0(self):
+        outputs = self.day(BELOW_ZERO, 1762365500, 110)
+        # on-line by order at -22 dollars in hour 11, off-line where the prices are lowest
+        self.assertEqual(outputs[9:14], [80, 40, 0, 0, 30])
 
 
 if __name__ == "__main__":
