@@ -7,7 +7,10 @@ import os
 import re
 import subprocess
 
-from tool import CASE_7, FAKE, ROOT, SOURCE, SOURCE_LIST, ToolTest, file_of, known_days, texts, unit
+from tool import (
+    BELOW_ZERO, BELOW_ZERO_LIST, CASE_7, FAKE, OLD_CASE_7, OLD_SOURCE, ROOT, SOURCE, SOURCE_LIST, ToolTest, file_of,
+    known_days, texts, unit,
+)
 
 CASE_7_ANSWER = "profit -53\n1 2 5\n2 1 3\n3 0 1\n"
 CASE_7_TABLE = """\
@@ -15,7 +18,7 @@ hour  order  price ($/MWh)  output (MW)  energy (MWh)    earnings ($)
    1  free           0.005            2           2.5         -0.0135
    2  free           0.005            1           1.5         -0.0085
    3  free           0.005            0           0.5         -0.0045
-total                                              4.5         -0.0265
+total                                             4.5         -0.0265
 profit -53 half-mills
 """
 
@@ -49,7 +52,7 @@ class Answered(ToolTest):
         table = self.table(SOURCE, self.source_answer()).splitlines()
         self.assertEqual(table[1], "   1  free          26.950          120         145.0     -1,702.2500")
         self.assertEqual(table[8], "   8  free          26.950           37          18.5     -1,154.4250")
-        self.assertEqual(table[25], "total                                          4,199.0     16,773.4810")
+        self.assertEqual(table[25], "total                                         4,199.0     16,773.4810")
         self.assertEqual(table[26], "profit 33546962 half-mills")
 
     def test_orders(self):
@@ -89,7 +92,7 @@ class BestFaults(ToolTest):
 
     def test_refusals(self):
         listed = texts("refusals.tsv")
-        self.assertEqual(list(listed), list(range(1, 12)))
+        self.assertEqual(list(listed), [1, 2, 12, 3, 4, 5, 6, 7, 8, 13, 9, 10, 11])
         for number, text in listed.items():
             if number != 11:
                 self.faulty(f"refused {number}\n", f"d.case: refused {number}: {text}")
@@ -148,10 +151,35 @@ class Found(ToolTest):
             yield status, text.removesuffix(line)
 
     def test_stored_cases(self):
-        for answer in self.both(CASE_7):
-            self.assertEqual(answer, (0, CASE_7_TABLE))
-        for status, text in self.both(SOURCE):
-            self.assertEqual((status, text.splitlines()[-1]), (0, "profit 33546962 half-mills"))
+        for data in (CASE_7, OLD_CASE_7):
+            for answer in self.both(data):
+                self.assertEqual(answer, (0, CASE_7_TABLE))
+        for data in (SOURCE, OLD_SOURCE):
+            for status, text in self.both(data):
+                self.assertEqual((status, text.splitlines()[-1]), (0, "profit 33546962 half-mills"))
+
+    def test_below_zero(self):
+        """Prices and earnings with their signs, in columns of one width."""
+        for status, text in self.both(BELOW_ZERO):
+            lines = text.splitlines()
+            self.assertEqual((status, lines[-1]), (0, "profit 1762365500 half-mills"))
+            self.assertEqual([int(line.split()[3]) for line in lines[1:25]], BELOW_ZERO_LIST)
+            self.assertEqual(lines[11], "  11  on           -22.000           40          60.0     -3,930.0000")
+            self.assertEqual(lines[20], "  20  free       2,750.000          240         240.0    649,920.0000")
+            self.assertEqual({len(line) for line in lines[:26]}, {len(lines[0])})
+
+    def test_wide_amounts(self):
+        """A column is as wide as its widest amount."""
+        data = file_of(capacity=400, rampup=400, initial=400, prices=[10**7] * 3, fixed=10**8)
+        for status, text in self.both(data):
+            self.assertEqual((status, text), (0, """\
+hour  order  price ($/MWh)  output (MW)  energy (MWh)     earnings ($)
+   1  free      10,000.000          400         400.0   3,899,996.0000
+   2  free      10,000.000          400         400.0   3,899,996.0000
+   3  free      10,000.000          400         400.0   3,899,996.0000
+total                                         1,200.0  11,699,988.0000
+profit 23399976000 half-mills
+"""))
 
     def test_known_days(self):
         for name, initial, elapsed, down, prices, orders, asked, answer in known_days():
@@ -164,7 +192,7 @@ class Found(ToolTest):
                 with self.subTest(case=name):
                     match answer.split():
                         case ["list", outputs, "profit", profit]:
-                            found = re.findall(r"^ +\d+ +\w+ +[\d.]+ +(\d+)", text, re.MULTILINE)
+                            found = re.findall(r"^ +\d+ +\w+ +-?[\d.]+ +(\d+)", text, re.MULTILINE)
                             self.assertEqual((status, ",".join(found)), (0, outputs))
                             self.assertTrue(text.endswith(f"profit {profit} half-mills\n"))
                         case ["refused", number]:
@@ -176,8 +204,11 @@ class Found(ToolTest):
             (1, b"", "bytes: 0, at least 16 needed"),
             (2, file_of(prices=[1] * 49, orders=[0] * 49), "hours: 49, from 1 to 48 allowed"),
             (3, file_of(minimum=5), "minimum: 5, from 1 to the capacity 4 allowed"),
-            (8, CASE_7[:-1] + b"\x03", "orders: 3 at hour 3, 0 (free), 1 (on) or 2 (off) allowed"),
-            (1, bytes(5000), "byte 0: offset of unit: 0, 16 needed"),
+            (8, OLD_CASE_7[:-1] + b"\x03", "orders: 3 at hour 3, 0 (free), 1 (on) or 2 (off) allowed"),
+            (1, bytes(5000), "byte 0: offset of unit: 0, 20 (16 in the old form) needed"),
+            (12, CASE_7[:-2] + b"\x05\x00", "byte 75: form number: 5, 2 needed"),
+            (13, file_of(prices=[5, 5, 10**7 + 1]), "prices: 10,000,001 mills ($10,000.001) at hour 3, from "
+             "-10,000,000 mills ($-10,000.000) to 10,000,000 mills ($10,000.000) allowed"),
         ]:
             for status, text in self.both(data):
                 self.assertEqual(status, 2)

@@ -9,7 +9,8 @@ import re
 from unittest import mock
 
 from tool import (
-    CASE_7, CASES, ROOT, SOURCE, SOURCE_LIST, SVG, PictureTest, file_of, giqapsun, list_text, random_list, texts,
+    BELOW_ZERO, BELOW_ZERO_LIST, CASE_7, CASES, OLD_CASE_7, ROOT, SOURCE, SOURCE_LIST, SVG, PictureTest, file_of,
+    giqapsun, list_text, random_list, texts,
 )
 
 from better import compared
@@ -77,6 +78,10 @@ class Chosen(PairTest):
         self.chosen("offer the first, a.csv: it earns $0.0140 more", BEST, HIGH)
         self.chosen("offer the second, b.csv: it earns $0.0140 more", HIGH, BEST)
         self.chosen("offer the second, b.csv: it earns $1.2250 more", [3, 3, 3], [4, 4, 4], file_of(prices=[500] * 3))
+        # below 0 the list that gives less, in a spike the one that gives more
+        below, spike = file_of(prices=[-500] * 3), file_of(prices=[80_000] * 3)
+        self.chosen("offer the first, a.csv: it earns $1.2750 more", [3, 3, 3], [4, 4, 4], below)
+        self.chosen("offer the second, b.csv: it earns $199.9750 more", [3, 3, 3], [4, 4, 4], spike)
 
     def test_equal_profit_and_the_lower_at_the_first_difference(self):
         self.chosen("offer the first, a.csv: equal profit, and lower at hour 1 (2 below 3 MW)", LOW, HIGH)
@@ -110,7 +115,7 @@ class Chosen(PairTest):
                 second[chance.randrange(len(second))] = chance.randint(0, case.capacity)
             if chance.random() < 0.5:
                 case.prices, case.fixed, case.startcost, case.stopcost = [case.variable] * len(first), 0, 0, 0
-            pair = compared("d.case", Reading(case, "library"), ("a.csv", first), ("b.csv", second))
+            pair = compared("d.case", Reading(case, "library", 2), ("a.csv", first), ("b.csv", second))
             seen.setdefault(pair.reason, set()).add(type(pair.choice))
         both = {giqapsun.First, giqapsun.Second}
         self.assertEqual(seen, {
@@ -122,7 +127,25 @@ class Printed(PairTest):
     """The text, and the answer for programs."""
 
     def test_text(self):
-        self.assertEqual(self.compared(CASE_7, BEST, HIGH), (0, TABLE))
+        for data in (CASE_7, OLD_CASE_7):
+            self.assertEqual(self.compared(data, BEST, HIGH), (0, TABLE))
+
+    def test_below_zero(self):
+        """A list that stays on-line through the hours below 0, beside one that stops."""
+        steady = [140, 80, 120, 180, 240, 200, 140, *[80] * 9, *BELOW_ZERO_LIST[16:]]
+        status, text = self.compared(BELOW_ZERO, BELOW_ZERO_LIST, steady)
+        self.assertIn("\n  13  free         -90.000       0 <     80          0.0000    -10,640.0000\n", text)
+        self.assertEqual((status, text.splitlines()[-2]), (0, "offer the first, a.csv: it earns $26,968.2500 more"))
+
+    def test_wide_amounts(self):
+        """A column is as wide as the widest amount, also that of a list that breaks a rule."""
+        _, text = self.compared(file_of(prices=[-(10**7), 10**7, 5]), [65535] * 3, BEST)
+        self.assertEqual(text.split("\n\n")[0], """\
+                                output (MW)                          earnings ($)
+hour  order  price ($/MWh)   first   second              first             second
+   1  free     -10,000.000   65535 >      2  -327,690,327.6910       -25,000.0260
+   2  free      10,000.000   65535 >      1   655,349,344.6490        14,999.9840
+   3  free           0.005   65535 >      0          -327.6760            -0.0045""")
 
     def test_stored_lists(self):
         """What docs/readers/trading-desk.md shows of the stored lists is printed, in its order."""
@@ -138,7 +161,7 @@ class Printed(PairTest):
     def test_marks(self):
         """Lower, higher and equal."""
         _, text = self.compared(CASE_7, LOW, HIGH)
-        marks = re.findall(r"^ +\d+ +free +[\d.]+ +\d+ ([<> ]) +\d+ ", text, re.MULTILINE)
+        marks = re.findall(r"^ +\d+ +free +-?[\d.]+ +\d+ ([<> ]) +\d+ ", text, re.MULTILINE)
         self.assertEqual(marks, ["<", ">", " "])
 
     def test_breach(self):
@@ -271,6 +294,9 @@ class BetterFaults(PairTest):
             (2, file_of(prices=[1] * 49, orders=[0] * 49), "hours: 49, from 1 to 48 allowed"),
             (3, file_of(minimum=5), "minimum: 5, from 1 to the capacity 4 allowed"),
             (8, file_of(orders=[0, 3, 0]), "orders: 3 at hour 2, 0 (free), 1 (on) or 2 (off) allowed"),
+            (12, CASE_7[:-2] + b"\3\0", "byte 75: form number: 3, 2 needed"),
+            (13, file_of(prices=[-(10**7) - 1, 5, 5]), "prices: -10,000,001 mills ($-10,000.001) at hour 1, from "
+             "-10,000,000 mills ($-10,000.000) to 10,000,000 mills ($10,000.000) allowed"),
         ]:
             words = ("better", self.file("d.case", data), "a.csv", "a.csv")
             self.at_fault(f"d.case: refused {number}: {listed[number]}\n{said}", *words)
@@ -379,7 +405,7 @@ class PlotOfTwo(PairTest):
     def test_marks(self):
         """A mark at each hour where the lists differ, under its tick."""
         marks = self.kinds(self.picture(CASE_7, LOW, HIGH), "rect", "differs")
-        self.assertEqual([float(mark.get("x")) + 4 for mark in marks], [84 + 254, 84 + 2 * 254])
+        self.assertEqual([float(mark.get("x")) + 4 for mark in marks], [100 + 254, 100 + 2 * 254])
         picture = self.picture(CASE_7, LOW, LOW)
         self.assertEqual(self.kinds(picture, "rect", "differs"), [])
         self.assertNotIn("they differ", self.texts(picture))
@@ -408,6 +434,14 @@ class PlotOfTwo(PairTest):
         self.answered("better", "d.case", name, name, "--plot", "p.svg")
         self.assertIn(f"first: ...{'x' * 53}.csv, earns $-0.0265", self.texts(self.drawn()))
 
+    def test_below_zero(self):
+        """The price of each hour in numbers, 0 inside the scale, spikes cut and marked."""
+        picture = self.picture(BELOW_ZERO, BELOW_ZERO_LIST, [80] * 24)
+        self.assertEqual(len(self.kinds(picture, "polygon", "cut")), 3)
+        self.assertIn("\u25b2 3 prices above this scale", self.texts(picture))
+        self.assertEqual([text.text for text in self.kinds(picture, "text", "amount")][12], "-90.000")
+        self.coloured(picture)
+
     def test_shortest_and_longest_day(self):
-        self.picture(file_of(prices=[65535], orders=[0]), [3], [4])
+        self.picture(file_of(prices=[-(10**7)], orders=[0]), [3], [4])
         self.picture(file_of(initial=0, variable=0, prices=[0] * 48, orders=[2] * 48), [0] * 48, [0] * 48)

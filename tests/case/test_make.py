@@ -13,7 +13,7 @@ class Made(ToolTest):
     """Cases that are made."""
 
     def test_stored_cases(self):
-        for name in ("source", "case7"):
+        for name in ("source", "case7", "below_zero"):
             made = self.made((CASES / f"{name}.toml").read_bytes(), (CASES / f"{name}.csv").read_bytes())
             self.assertEqual(made, (CASES / f"{name}.case").read_bytes())
 
@@ -23,8 +23,8 @@ class Made(ToolTest):
 
     def test_case_7_bytes(self):
         expected = struct.pack(
-            "<8H6H4I2H2H2HHBHBHB", 16, 32, 48, 4, 52, 4, 56, 9, 4, 2, 1, 1, 1, 1, 10, 1, 3, 2, 3, 2, 1, 2,
-            2, 1, 5, 0, 5, 0, 5, 0,
+            "<10H6H4i2H2H2HiBiBiBH", 20, 32, 52, 4, 56, 4, 60, 15, 75, 2, 4, 2, 1, 1, 1, 1, 10, 1, 3, 2, 3, 2,
+            1, 2, 2, 1, 5, 0, 5, 0, 5, 0, 2,
         )
         self.assertEqual(self.made(unit(), PRICES), expected)
 
@@ -36,12 +36,12 @@ class Made(ToolTest):
             csv = "hour,price_mills,order\n" + "".join(f"{k},{p},{o}\n" for k, (p, o) in enumerate(hours, 1))
             toml = unit(initial=initial, elapsed=elapsed, mindown=down)
             start = struct.pack(
-                "<8H6H4I2H2H2H", 16, 32, 48, 4, 52, 4, 56, 3 * len(hours), 4, 2, 1, 1, 1, int(down), 10, 1, 3,
-                2, int(initial), int(elapsed), 1, 2, 2, 1,
+                "<10H6H4i2H2H2H", 20, 32, 52, 4, 56, 4, 60, 5 * len(hours), 60 + 5 * len(hours), 2, 4, 2, 1, 1, 1,
+                int(down), 10, 1, 3, 2, int(initial), int(elapsed), 1, 2, 2, 1,
             )
-            end = b"".join(struct.pack("<HB", int(price), ORDERS[order]) for price, order in hours)
+            middle = b"".join(struct.pack("<iB", int(price), ORDERS[order]) for price, order in hours)
             with self.subTest(case=name):
-                self.assertEqual(self.made(toml, csv), start + end)
+                self.assertEqual(self.made(toml, csv), start + middle + b"\2\0")
 
     def test_dollars_are_exact(self):
         for dollars, mills in [
@@ -51,10 +51,15 @@ class Made(ToolTest):
             with self.subTest(dollars=dollars):
                 made = self.made(unit(variable_mills=None, variable_dollars=dollars), PRICES)
                 self.assertEqual(made, self.made(unit(variable_mills=str(mills)), PRICES))
-        for dollars, mills in [("0.1", 100), ("65.535", 65535), ("26.95", 26950), ("0", 0)]:
+        for dollars, mills in [
+            ("0.1", 100), ("65.535", 65535), ("65.536", 65536), ("26.95", 26950), ("0", 0), ("-0", 0), ("-0.001", -1),
+            ("-12.5", -12500), ("+2.75", 2750), ("2750.000", 2750000), ("10000", 10**7), ("9999.999", 10**7 - 1),
+            ("-10000.000", -(10**7)), ("-9999.999", 1 - 10**7),
+        ]:
             with self.subTest(dollars=dollars):
                 made = self.made(unit(), f"hour,price_dollars\n1,{dollars}\n")
                 self.assertEqual(made, self.made(unit(), f"hour,price_mills\n1,{mills}\n"))
+                self.assertEqual(giqapsun.read(made).prices, [mills])
 
     def test_forms_of_a_prices_file(self):
         expected = self.made(unit(), "hour,price_mills,order\n1,5,on\n2,6,off\n")
@@ -192,7 +197,7 @@ class Refused(ToolTest):
         )
 
     def test_costs(self):
-        text = "F above 1,000,000, or A, B or C above 100,000,000"
+        text = "F not from 0 to 1,000,000, or A, B or C not from 0 to 100,000,000"
         most = "from 0 to 1,000,000 mills ($1,000.000) allowed"
         self.refused(
             5, text, unit(variable_mills="1000001"), f"u.toml:7: variable: 1,000,001 mills ($1,000.001), {most}"
@@ -207,6 +212,11 @@ class Refused(ToolTest):
             "from 0 to 100,000,000 mills ($100,000.000) allowed",
         )
         self.refused(5, text, unit(variable_mills="-1"), f"u.toml:7: variable: -1 mills ($-0.001), {most}")
+        self.refused(
+            5, text, unit(fixed_mills="2147483648"),
+            "u.toml:8: fixed: 2,147,483,648 mills ($2,147,483.648), "
+            "from 0 to 100,000,000 mills ($100,000.000) allowed",
+        )
 
     def test_trajectories(self):
         text = (
@@ -232,6 +242,34 @@ class Refused(ToolTest):
         self.refused(
             7, text, unit(elapsed="1"),
             "u.toml:12: elapsed: 1, 2 or more (the outputs of rise) allowed with initial above 0",
+        )
+
+
+    def test_prices(self):
+        """Hour, value and limit, and the line; also for a price that no record holds."""
+        text = "a price outside -10,000,000 to 10,000,000"
+        limits = "from -10,000,000 mills ($-10,000.000) to 10,000,000 mills ($10,000.000) allowed"
+        for cell, value in [
+            ("10000001", "10,000,001 mills ($10,000.001)"), ("-10000001", "-10,000,001 mills ($-10,000.001)"),
+            ("2147483648", "2,147,483,648 mills ($2,147,483.648)"),
+            ("-99999999999", "-99,999,999,999 mills ($-99,999,999.999)"),
+        ]:
+            self.refused(
+                13, text, unit(), f"p.csv:4: price_mills: {value} at hour 2, {limits}",
+                f"hour,price_mills\n1,5\n\n2,{cell}\n",
+            )
+        self.refused(
+            13, text, unit(),
+            f"p.csv:2: price_dollars: 10,000,001 mills ($10,000.001) at hour 1, {limits}\n"
+            f"p.csv:4: price_dollars: -20,000,000 mills ($-20,000.000) at hour 3, {limits}",
+            "hour,price_dollars,order\n1,10000.001,on\n2,10000,on\n3,-20000,free\n",
+        )
+        # the costs come before the prices
+        costs = "F not from 0 to 1,000,000, or A, B or C not from 0 to 100,000,000"
+        most = "from 0 to 1,000,000 mills ($1,000.000) allowed"
+        self.refused(
+            5, costs, unit(variable_mills="-1"), f"u.toml:7: variable: -1 mills ($-0.001), {most}",
+            "hour,price_mills\n1,10000001\n",
         )
 
 
@@ -275,19 +313,12 @@ class PricesFaults(ToolTest):
 
     def test_prices(self):
         mills = "is not a price in whole mills"
-        for cell, what in [
-            ("65536", "65536, from 0 to 65,535 allowed"), ("-1", "-1, from 0 to 65,535 allowed"),
-            ("5.0", f"'5.0' {mills}"), ("", f"'' {mills}"), ("x" * 50, f"'{'x' * 40}...' {mills}"),
-            ("\u0665", f"'\u0665' {mills}"),
-        ]:
-            self.faulty(f"hour,price_mills\n1,5\n2,{cell}\n", f"p.csv:3: price_mills: {what}")
+        for cell in ("5.0", "", "-", "--5", "x" * 40, "\u0665", "\u22125", "1e3", "9" * 16):
+            self.faulty(f"hour,price_mills\n1,5\n2,{cell}\n", f"p.csv:3: price_mills: '{cell}' {mills}")
+        self.faulty(f"hour,price_mills\n1,{'x' * 50}\n", f"p.csv:2: price_mills: '{'x' * 40}...' {mills}")
         dollars = "is not a price in dollars with up to three decimals"
-        for cell, what in [
-            ("70", "70, from 0 to 65.535 allowed"), ("-0.5", "-0.5, from 0 to 65.535 allowed"),
-            ("26.9500", f"'26.9500' {dollars}"), ("$5", f"'$5' {dollars}"), ("1e1", f"'1e1' {dollars}"),
-            ("5.", f"'5.' {dollars}"),
-        ]:
-            self.faulty(f"hour,price_dollars\n1,{cell}\n", f"p.csv:2: price_dollars: {what}")
+        for cell in ("26.9500", "-0.0001", "$5", "-$5", "(5)", "1e1", "5.", "-.5", "1_000", "9" * 16):
+            self.faulty(f"hour,price_dollars\n1,{cell}\n", f"p.csv:2: price_dollars: '{cell}' {dollars}")
 
     def test_orders(self):
         for cell in ("", "ON", "1", "must"):

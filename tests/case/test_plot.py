@@ -1,6 +1,6 @@
 """case best --plot: what the picture holds."""
 
-from tool import SOURCE, SOURCE_LIST, SVG, PictureTest, file_of
+from tool import BELOW_ZERO, OLD_SOURCE, SOURCE, SOURCE_LIST, SVG, PictureTest, file_of
 
 
 class Plot(PictureTest):
@@ -10,6 +10,82 @@ class Plot(PictureTest):
         """The picture of a case's best day."""
         self.answered("best", self.file(name, data), "--plot", "p.svg", GIQAPSUN_BEST_DAY="")
         return self.drawn()
+
+    def amounts(self, picture):
+        """The prices, and then what each hour earns, as they stand below their panels."""
+        return [text.text for text in self.kinds(picture, "text", "amount")]
+
+    def prices(self, picture):
+        """The heights of the price in each hour, None where it is off the scale; and the height of 0."""
+        heights = {}
+        for line in self.kinds(picture, "polyline", "price"):
+            points = [tuple(map(float, point.split(","))) for point in line.get("points").split()]
+            for (x, y), (later, same) in zip(points, points[1:]):
+                if later > x:
+                    self.assertEqual(y, same)
+                    heights[x] = y
+        hours = len(self.titles(picture))
+        return [heights.get(round(100 + 762 * k / hours, 1)) for k in range(hours)], self.zero(picture)
+
+    def zero(self, picture):
+        """The height of 0 in the panel of prices: its tick stands 4 below the line."""
+        ticks = [text for text in picture.iter(SVG + "text") if text.get("text-anchor") == "end" and text.text == "0"]
+        return next(float(tick.get("y")) - 4 for tick in ticks if 364 <= float(tick.get("y")) - 4 <= 494)
+
+    def test_old_form(self):
+        """Both forms of a case have the same picture."""
+        self.picture(SOURCE)
+        drawn = (self.folder / "p.svg").read_bytes()
+        self.picture(OLD_SOURCE)
+        self.assertEqual((self.folder / "p.svg").read_bytes(), drawn)
+
+    def test_below_zero(self):
+        """Prices below 0 stand below the line of 0, which has its axis; a spike is cut, marked and counted."""
+        picture = self.picture(BELOW_ZERO)
+        heights, zero = self.prices(picture)
+        amounts = self.amounts(picture)[:24]
+        self.assertEqual((amounts[10], amounts[19]), ("-22.000", "2,750.000"))
+        spikes = [hour for hour, height in enumerate(heights, 1) if height is None]
+        self.assertEqual(spikes, [19, 20, 21])
+        for height, amount in zip(heights, amounts):
+            if height is not None:
+                self.assertEqual(height > zero, amount.startswith("-"))
+        axes = [line for line in self.kinds(picture, "line", "axis") if line.get("y1") == line.get("y2")]
+        self.assertIn(f"{zero:.1f}", [line.get("y1") for line in axes])
+        for label in ("-100", "-50", "0", "50", "100", "\u25b2 3 prices above this scale"):
+            self.assertIn(label, self.texts(picture))
+        marks = self.kinds(picture, "polygon", "cut")
+        self.assertEqual([float(mark.get("points").split()[2].split(",")[1]) for mark in marks], [364 - 8] * 3)
+        self.assertIn("\u25b2 3 amounts above this scale", self.texts(picture))
+        self.coloured(picture)
+
+    def test_spikes(self):
+        """A few far prices are cut, upwards and downwards; the others have the scale to themselves."""
+        picture = self.picture(file_of(prices=[5, -7, 6, 9_000_000, 8, -4, -10_000_000, 3], orders=[0] * 8))
+        heights, zero = self.prices(picture)
+        self.assertEqual([hour for hour, height in enumerate(heights, 1) if height is None], [4, 7])
+        self.assertEqual([height > zero for height in heights if height], [False, True, False, False, True, False])
+        self.assertIn("\u25b2 1 price above this scale, \u25bc 1 price below this scale", self.texts(picture))
+        self.assertEqual(len(self.kinds(picture, "polygon", "cut")), 2)
+
+    def test_no_spikes(self):
+        """Prices that are far apart evenly, and a single hour, are all on the scale."""
+        for prices in ([10**7, -(10**7), 5, 10**7], [-(10**7)], [10**7], [0, 0, 0, 7]):
+            picture = self.picture(file_of(prices=prices, orders=[0] * len(prices), variable=0))
+            self.assertNotIn(None, self.prices(picture)[0])
+            self.assertEqual(self.kinds(picture, "polygon", "cut"), [])
+
+    def test_ticks_have_room(self):
+        """The widest label of an axis stands clear of the words beside the axis."""
+        data = file_of(capacity=400, rampup=400, rampdown=400, initial=400, prices=[-(10**7)] * 4, orders=[1] * 4,
+                       minimum=400, rise=[400], fall=[400])
+        ticks = [text for text in self.picture(data).iter(SVG + "text") if text.get("text-anchor") == "end"]
+        labels = [tick for tick in ticks if tick.get("transform") is None and tick.get("class") is None]
+        self.assertIn("-4,000,000", [label.text for label in labels])
+        # a digit of 12 pixels is at most 7.7 wide, a comma or a minus 4.4; the words beside the axis end at 22
+        for label in labels:
+            width = sum(4.4 if letter in ",.-" else 7.7 for letter in label.text)
+            self.assertGreater(float(label.get("x")) - width, 22)
 
     def test_source_day(self):
         picture = self.picture(SOURCE)
@@ -35,7 +111,7 @@ class Plot(PictureTest):
         """A bar and an amount for each hour; losses apart from gains by more than colour."""
         picture = self.picture(SOURCE)
         bars = [bar for bar in picture.iter(SVG + "rect") if bar.get("class") in ("gain", "loss")]
-        amounts = [text.text for text in self.kinds(picture, "text", "amount")]
+        amounts = self.amounts(picture)[24:]
         self.assertEqual((len(bars), len(amounts)), (24, 24))
         self.assertEqual((amounts[0], amounts[23]), ("-1,702.2500", "-2,153.3500"))
         zero = next(float(bar.get("y")) for bar, amount in zip(bars, amounts) if amount == "0.0000")
@@ -69,15 +145,19 @@ class Plot(PictureTest):
 
     def test_cost_off_the_scale(self):
         note = "variable cost F 1.000 $/MWh is above this scale"
-        picture = self.picture(file_of(variable=1000))
-        self.assertIn(note, self.texts(picture))
-        self.assertNotIn("variable cost F", self.texts(picture))
-        self.assertNotIn(note, self.texts(self.picture(file_of(prices=[500] * 3, variable=1000))))
+        for prices in ([5] * 3, [-5] * 3, [-990] * 3, [0] * 3, [490, 0, 0]):
+            picture = self.picture(file_of(prices=prices, variable=1000))
+            self.assertIn(note, self.texts(picture))
+            self.assertNotIn("variable cost F", self.texts(picture))
+        for prices in ([500] * 3, [-1000] * 3, [400, -250, 400]):
+            picture = self.picture(file_of(prices=prices, variable=1000))
+            self.assertNotIn(note, self.texts(picture))
+            self.assertIn("variable cost F", self.texts(picture))
 
     def test_no_earnings(self):
         """A day at rest, and one of a single hour."""
         self.picture(file_of(initial=0, variable=0, prices=[0] * 48, orders=[2] * 48))
-        self.picture(file_of(prices=[65535], orders=[0]))
+        self.picture(file_of(prices=[10**7], orders=[0]))
 
     def test_colours(self):
         self.coloured(self.picture(SOURCE))

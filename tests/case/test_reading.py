@@ -3,11 +3,15 @@
 import os
 import random
 import shutil
+import struct
 import subprocess
 
-from tool import CASE_7, CASES, FAKE, PRICES, ROOT, SOURCE, ToolTest, file_of, giqapsun, list_text, texts, unit
+from tool import (
+    BELOW_ZERO, CASE_7, CASES, FAKE, OLD_CASE_7, OLD_SOURCE, PRICES, ROOT, SOURCE, ToolTest, file_of, giqapsun,
+    list_text, texts, unit,
+)
 
-from layout import bytes_of, case_of
+from layout import bytes_of, case_of, form_of
 
 
 def damaged(chance, data):
@@ -19,54 +23,121 @@ def damaged(chance, data):
     return bytes(data[:end] if end < 0 else data + bytes(end))
 
 
+def chained(lengths, sections):
+    """A file whose pairs lead from section to section to its end, whatever lengths the sections have."""
+    pairs, end = b"", 4 * len(lengths)
+    for length in lengths:
+        pairs += struct.pack("<2H", end, length)
+        end += length
+    return pairs + b"".join(section[:length].ljust(length, b"\1") for section, length in zip(sections, lengths))
+
+
+def parts(data):
+    """The sections of a file that reads."""
+    pairs = struct.iter_unpack("<2H", data[: data[0]])
+    return [data[offset : offset + length] for offset, length in pairs]
+
+
 class OwnReader(ToolTest):
     """The tool's own reader and writer against the library's."""
+
+    def same(self, data):
+        """The number that both give, with the same case; a refusal is explained."""
+        number, case, faults = case_of(data)
+        try:
+            self.assertEqual((number, case, faults), (0, giqapsun.read(data), []))
+        except giqapsun.Refusal as refused:
+            self.assertEqual((number, case), (refused.number, None), data.hex())
+            self.assertTrue(faults)
+        return number
+
+    def test_stored_cases(self):
+        """The two forms of a case are the same case, and form 2 is the one written."""
+        for old, data in ((OLD_CASE_7, CASE_7), (OLD_SOURCE, SOURCE)):
+            self.assertEqual((form_of(old), form_of(data)), ("old", 2))
+            self.assertEqual((self.same(old), self.same(data)), (0, 0))
+            self.assertEqual(case_of(old), case_of(data))
+            self.assertEqual(bytes_of(case_of(old)[1]), data)
+        self.assertEqual(bytes_of(case_of(BELOW_ZERO)[1]), BELOW_ZERO)
 
     def test_damaged_files(self):
         chance = random.Random(3)
         numbers = set()
-        for _ in range(2500):
-            data = damaged(chance, chance.choice((CASE_7, SOURCE)))
-            number, case, faults = case_of(data)
+        for _ in range(6000):
+            data = damaged(chance, chance.choice((CASE_7, SOURCE, BELOW_ZERO, OLD_CASE_7, OLD_SOURCE)))
+            number = self.same(data)
             numbers.add(number)
-            try:
-                self.assertEqual((number, case, faults), (0, giqapsun.read(data), []))
+            if number == 0:
+                case = giqapsun.read(data)
                 self.assertEqual(bytes_of(case), giqapsun.write(case))
-            except giqapsun.Refusal as refused:
-                self.assertEqual((number, case), (refused.number, None))
-                self.assertTrue(faults)
-        self.assertEqual(numbers, {0, 1, 3, 4, 5, 6, 7, 8})
+                if form_of(data) == 2:
+                    self.assertEqual(bytes_of(case), data)
+        self.assertEqual(numbers, {0, 1, 2, 12, 3, 4, 5, 6, 7, 8, 13})
 
     def test_lengths(self):
-        """Sections of every length, in a chain that holds."""
-        for place, width in ((1, 32), (3, 2), (5, 2), (7, 3)):
-            for length in {*range(20), 8 * width, 8 * width + 1, 9 * width, 48 * width, 49 * width, 3000}:
-                lengths = [32, 4, 4, 9]
-                lengths[place // 2] = length
-                pairs, end = [], 16
-                for section in lengths:
-                    pairs += [end, section]
-                    end += section
-                data = b"".join(number.to_bytes(2, "little") for number in pairs) + CASE_7[16:].ljust(end - 16, b"\1")
-                data = data[:end]
-                try:
-                    giqapsun.read(data)
-                    number = 0
-                except giqapsun.Refusal as refused:
-                    number = refused.number
-                self.assertEqual(case_of(data)[0], number)
+        """Sections of every length, in a chain that holds, with form numbers that are known and that are not."""
+        for data, widths in ((OLD_CASE_7, (32, 2, 2, 3)), (CASE_7, (32, 2, 2, 5, 2))):
+            for place, width in enumerate(widths):
+                for length in {*range(20), 8 * width, 8 * width + 1, 9 * width, 48 * width, 49 * width, 3000}:
+                    for form in (2, 3):
+                        sections = parts(data)
+                        sections[4:] = [form.to_bytes(2, "little")] * len(sections[4:])
+                        lengths = [*map(len, sections)]
+                        lengths[place] = length
+                        number = self.same(chained(lengths, sections))
+                        if length == len(sections[place]):
+                            self.assertEqual(number, 12 if form == 3 and data is CASE_7 else 0)
+
+    def test_first_offsets(self):
+        """The first offset decides: 16, 20, or 1; a file too short for its pairs is 1."""
+        for data in (CASE_7, OLD_CASE_7):
+            for offset in (*range(40), 256 + 16, 256 + 20, 65_535):
+                changed = struct.pack("<H", offset) + data[2:]
+                for length in (*range(24), len(data)):
+                    number = self.same(changed[:length])
+                    self.assertEqual(number, 0 if changed[:length] == data else 1)
+
+    def test_order_of_refusals(self):
+        """From the last of a file's refusals to the first, each beside all that come after it."""
+        faults = [
+            (13, 60, struct.pack("<i", 10_000_001)), (8, 64, b"\3"), (7, 48, b"\1"), (6, 52, b"\2"),
+            (5, 32, struct.pack("<I", 2**31)), (4, 24, b"\0"), (3, 20, b"\0"), (12, 75, b"\3"), (2, None, b""),
+            (1, 4, b"\0"),
+        ]
+        data = bytearray(CASE_7)
+        for number, place, changed in faults:
+            if number == 2:
+                # a shut-down of no outputs: the hours begin 4 bytes earlier
+                data = bytearray(chained([32, 4, 0, 15, 2], parts(bytes(data))))
+            else:
+                data[place : place + len(changed)] = changed
+            self.assertEqual(self.same(bytes(data)), number)
 
     def test_words_of_a_file(self):
         """What is said of the bytes at fault."""
-        first, second = texts("refusals.tsv")[1], texts("refusals.tsv")[2]
+        first, second, twelfth, fifth, last = (texts("refusals.tsv")[number] for number in (1, 2, 12, 5, 13))
         hours = file_of(prices=[1] * 49, orders=[0] * 49)
+        limits = "from -10,000,000 mills ($-10,000.000) to 10,000,000 mills ($10,000.000) allowed"
         for data, text in [
             (b"", f"refused 1: {first}\nbytes: 0, at least 16 needed"),
-            (bytes(range(256)), f"refused 1: {first}\nbyte 0: offset of unit: 256, 16 needed\n"),
-            (CASE_7[:-1], f"refused 1: {first}\nbyte 12: end of hours: 65, and the file ends at 64"),
-            (CASE_7[:14] + b"\4\0" + CASE_7[16:60],
+            (bytes(range(256)), f"refused 1: {first}\nbyte 0: offset of unit: 256, 20 (16 in the old form) needed\n"),
+            (CASE_7[:19], f"refused 1: {first}\nbytes: 19, at least 20 needed where the offset of unit is 20"),
+            (CASE_7[:-1], f"refused 1: {first}\nbyte 16: end of form: 77, and the file ends at 76"),
+            (OLD_CASE_7[:-1], f"refused 1: {first}\nbyte 12: end of hours: 65, and the file ends at 64"),
+            (CASE_7[:16] + b"\x4c" + CASE_7[17:], f"refused 1: {first}\nbyte 16: offset of form: 76, 75 needed"),
+            (OLD_CASE_7[:14] + b"\4\0" + OLD_CASE_7[16:60],
              f"refused 2: {second}\nbyte 14: length of hours: 4, 3 bytes for each entry needed"),
+            (chained([32, 4, 4, 9, 2], parts(CASE_7)),
+             f"refused 2: {second}\nbyte 14: length of hours: 9, 5 bytes for each entry needed"),
+            (chained([32, 4, 4, 15, 3], parts(CASE_7)),
+             f"refused 2: {second}\nbyte 18: length of form: 3, 2 bytes needed"),
             (hours, f"refused 2: {second}\nhours: 49, from 1 to 48 allowed"),
+            (CASE_7[:-2] + b"\3\0", f"refused 12: {twelfth}\nbyte 75: form number: 3, 2 needed"),
+            (CASE_7[:36] + b"\0\0\0\x80" + CASE_7[40:],
+             f"refused 5: {fifth}\nfixed: -2,147,483,648 mills ($-2,147,483.648), from 0 to 100,000,000 mills "
+             "($100,000.000) allowed"),
+            (file_of(prices=[5, -10_000_001, 5]),
+             f"refused 13: {last}\nprices: -10,000,001 mills ($-10,000.001) at hour 2, {limits}"),
         ]:
             status, printed, message = self.run_tool("show", self.file("d.case", data))
             self.assertEqual((status, printed), (2, b""))
@@ -88,6 +159,26 @@ class NotBuilt(ToolTest):
         named = {name: value for name, value in os.environ.items() if not name.startswith("GIQAPSUN_")}
         return self.run_alone(*words, tool=self.tool, env={**named, **environment})
 
+    def test_forms(self):
+        """Both forms are read, and named."""
+        for data, form in ((OLD_CASE_7, b'"form": "old"'), (CASE_7, b'"form": 2'), (BELOW_ZERO, b'"form": 2')):
+            status, printed, message = self.run_copy("show", self.file("d.case", data), "--json")
+            self.assertEqual((status, message), (0, ""))
+            self.assertIn(form, printed)
+            said = self.answered("show", "d.case", "--json").replace(b'"library"', b'"tool"')
+            self.assertEqual(printed, said)
+
+    def test_refusals(self):
+        """The numbers and the words of each fault are those that the library's refusals are explained by."""
+        for data in (
+            b"", CASE_7[:19], chained([32, 4, 4, 15, 3], parts(CASE_7)), CASE_7[:-2] + b"\1\0", file_of(minimum=5),
+            file_of(rampup=0), file_of(variable=-1), file_of(rise=[2, 2]), file_of(initial=1),
+            file_of(orders=[0, 0, 3]), file_of(prices=[10_000_001, 5, 5]),
+            file_of(prices=[5, -10_000_001, -10_000_002]),
+        ):
+            self.file("d.case", data)
+            self.assertEqual(self.run_copy("show", "d.case"), self.run_tool("show", "d.case"))
+
     def test_show(self):
         self.file("d.case", CASE_7)
         status, printed, message = self.run_copy("show", "d.case")
@@ -103,12 +194,16 @@ class NotBuilt(ToolTest):
 
     def test_make(self):
         note = "case: read by this tool itself: the library is not built\n"
-        words = ("make", CASES / "source.toml", CASES / "source.csv")
-        self.assertEqual(self.run_copy(*words), (0, SOURCE, note))
+        for name, data in (("source", SOURCE), ("below_zero", BELOW_ZERO)):
+            words = ("make", CASES / f"{name}.toml", CASES / f"{name}.csv")
+            self.assertEqual(self.run_copy(*words), (0, data, note))
         self.file("u.toml", unit(rampup="0"))
         refused = f"case: u.toml, p.csv: refused 4: {texts('refusals.tsv')[4]}\n"
         refused += "case: u.toml:3: rampup: 0, from 1 to 400 allowed\n"
         self.assertEqual(self.run_copy("make", "u.toml", self.file("p.csv", PRICES)), (2, b"", refused))
+        self.file("u.toml", unit())
+        self.file("p.csv", "hour,price_dollars\n1,-10000.001\n")
+        self.assertEqual(self.run_copy("make", "u.toml", "p.csv"), self.run_tool("make", "u.toml", "p.csv"))
 
     def test_best(self):
         self.file("d.case", CASE_7)
@@ -136,12 +231,12 @@ class NotBuilt(ToolTest):
     def test_a_library_that_is_none(self):
         """A library that is named and cannot serve is a fault; the tool's own reader does not stand in for it."""
         self.file("d.case", CASE_7)
-        self.file("stub.c", "int giqapsun_read(void) { return 0; }\n")
+        self.file("stub.c", "int giqapsun_read_1(void) { return 0; }\n")
         subprocess.run(["gcc", "-shared", "stub.c", "-o", "stub.so"], cwd=self.folder, check=True)
         self.file("text.so", "no library\n")
         for name, what in [
             ("none.so", "the library none.so cannot be loaded: no such file\n"),
-            ("stub.so", "stub.so has no giqapsun_read_1: it is no library of layout 1; bindings/build.sh builds one\n"),
+            ("stub.so", "stub.so has no giqapsun_read_2: it is no library of layout 2; bindings/build.sh builds one\n"),
         ]:
             answer = self.run_copy("show", "d.case", GIQAPSUN_LIBRARY=name)
             self.assertEqual(answer, (2, b"", f"case: {what}"))

@@ -6,9 +6,10 @@ import json
 import random
 from dataclasses import asdict
 
-from tool import CASE_7, SOURCE, ToolTest, file_of, giqapsun, small
+from tool import BELOW_ZERO, CASE_7, OLD_CASE_7, OLD_SOURCE, SOURCE, ToolTest, file_of, giqapsun, small
 
 CASE_7_TEXT = """\
+form                2               of the file, with signed 32-bit prices
 capacity            4 MW
 minimum             2 MW            minimum output
 rampup              1 MW per hour   ramp-up limit RU
@@ -44,6 +45,25 @@ class Shown(ToolTest):
     def test_case_7(self):
         self.assertEqual(self.shown(CASE_7), CASE_7_TEXT)
 
+    def test_old_form(self):
+        """The same text under another form."""
+        form, *lines = self.shown(OLD_CASE_7).splitlines(keepends=True)
+        said = "of the file, with 16-bit prices; form 2 is the one that is written\n"
+        self.assertEqual(form, f"form              old               {said}")
+        self.assertEqual(lines, CASE_7_TEXT.splitlines(keepends=True)[1:])
+
+    def test_prices_below_zero(self):
+        """Minus signs, and columns that stay as they are for the longest price."""
+        text = self.shown(file_of(prices=[-10_000_000, -1, 10_000_000]))
+        self.assertEqual(text[text.index("hour  price") :], """\
+hour  price (mills/MWh)  price ($/MWh)  order
+   1          -10000000    -10,000.000  free
+   2                 -1         -0.001  free
+   3           10000000     10,000.000  free
+
+read by the library
+""")
+
     def test_orders_and_opening(self):
         text = self.shown(file_of(initial=0, prices=[5, 7], orders=[1, 2]))
         self.assertIn("h, hours off-line before hour 1\n", text)
@@ -52,15 +72,17 @@ class Shown(ToolTest):
 
     def test_json(self):
         """The record itself, under the record's names."""
-        for data in (CASE_7, SOURCE):
+        for data, form in ((CASE_7, 2), (SOURCE, 2), (BELOW_ZERO, 2), (OLD_CASE_7, "old"), (OLD_SOURCE, "old")):
             answer = json.loads(self.shown(data, "--json"))
-            self.assertEqual(list(answer), ["case", "read_by"])
-            self.assertEqual(answer["read_by"], "library")
+            self.assertEqual(list(answer), ["form", "case", "read_by"])
+            self.assertEqual((answer["form"], answer["read_by"]), (form, "library"))
             self.assertEqual(list(answer["case"]), list(asdict(giqapsun.Case())))
             self.assertEqual(giqapsun.Case(**answer["case"]), giqapsun.read(data))
 
     def test_csv(self):
         rows = list(csv.DictReader(io.StringIO(self.shown(file_of(orders=[0, 1, 2]), "--csv"))))
+        self.assertEqual(rows.pop(0), {"field": "form", "entry": "", "value": "2"})
+        self.assertTrue(self.shown(OLD_CASE_7, "--csv").startswith("field,entry,value\nform,,old\n"))
         self.assertEqual(rows[0], {"field": "capacity", "entry": "", "value": "4"})
         self.assertEqual(rows[-1], {"field": "orders", "entry": "3", "value": "2"})
         case = giqapsun.Case()
@@ -89,8 +111,10 @@ class MadeAgain(ToolTest):
         return self.answered("make", "u.toml", "p.csv")
 
     def test_stored_cases(self):
-        for data in (CASE_7, SOURCE):
+        for data in (BELOW_ZERO, CASE_7, SOURCE):
             self.assertEqual(self.again(data), data)
+        for old, data in ((OLD_CASE_7, CASE_7), (OLD_SOURCE, SOURCE)):
+            self.assertEqual(self.again(old), data)
         toml = (self.folder / "u.toml").read_text()
         self.assertIn("rampup = 60                               # ramp-up limit RU, MW per hour\n", toml)
         self.assertIn("startcost_dollars = 850.000               # start-up cost B, per start\n", toml)
@@ -108,7 +132,7 @@ class MadeAgain(ToolTest):
                 minup=number(1, 8), mindown=number(1, 8), variable=number(0, 10**6), fixed=number(0, 10**8),
                 startcost=number(0, 10**8), stopcost=number(0, 10**8), initial=number(minimum, capacity),
                 elapsed=number(8, 10_000), rise=[*range(1, number(1, 8)), minimum],
-                fall=[minimum, *range(number(1, 8) - 1, 0, -1)], prices=[number(0, 65_535) for _ in range(hours)],
+                fall=[minimum, *range(number(1, 8) - 1, 0, -1)], prices=[number(-(10**7), 10**7) for _ in range(hours)],
                 orders=[number(0, 2) for _ in range(hours)],
             )
             data = giqapsun.write(case)

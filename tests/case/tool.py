@@ -28,9 +28,15 @@ from module import giqapsun  # noqa: E402
 
 CASE_7 = (CASES / "case7.case").read_bytes()
 SOURCE = (CASES / "source.case").read_bytes()
+BELOW_ZERO = (CASES / "below_zero.case").read_bytes()
+OLD_CASE_7 = (CASES / "old/case7.case").read_bytes()
+OLD_SOURCE = (CASES / "old/source.case").read_bytes()
 SOURCE_LIST = [
     120, 112, 70, 30, 0, 0, 0, 37, 75, 112, 172, 232, 292, 294, 294, 294, 294, 294, 294, 294, 294, 244, 194,
     144,
+]
+BELOW_ZERO_LIST = [
+    140, 80, 120, 180, 240, 240, 200, 140, 80, 80, 40, 0, 0, 30, 60, 80, 140, 200, 240, 240, 240, 240, 180, 120,
 ]
 
 # case 7 of the known days, key by key
@@ -97,7 +103,7 @@ def random_list(chance):
     )
     if chance.random() < 0.5:
         return case, [chance.choice((0, 0, *rise, number(0, capacity + 1))) for _ in range(hours)]
-    free = replace(case, orders=[0] * hours, prices=[number(0, 40) for _ in range(hours)])
+    free = replace(case, orders=[0] * hours, prices=[number(-20, 40) for _ in range(hours)])
     outputs = giqapsun.best(free).outputs
     if chance.random() < 0.8:
         outputs[number(0, hours - 1)] = number(0, capacity + 1)

@@ -10,7 +10,7 @@ from faults import Fault, Refused
 from hours import agree, earnings, energies
 from layout import case_of
 from module import giqapsun
-from money import dollars_of_half_mills, dollars_of_mills, machine, megawatt_hours
+from money import dollars_of_half_mills, dollars_of_mills, machine, megawatt_hours, widest
 from reading import BY, Reading, built, explained, read_case
 from tables import csv_of, json_of
 from words import ORDERS, counted, listed
@@ -145,14 +145,14 @@ def _day(reading, outputs, profit, found_by):
 
 def best_text(day):
     """The day hour by hour, with totals."""
-    lines = ["hour  order  price ($/MWh)  output (MW)  energy (MWh)    earnings ($)"]
+    profit, width = dollars_of_half_mills(day.profit), widest([*day.earnings, day.profit])
+    lines = [f"hour  order  price ($/MWh)  output (MW)  energy (MWh)  {'earnings ($)':>{width}}"]
     for k, order, price, output, energy, earned in day.hours():
         lines.append(
             f"{k:4}  {order:5}  {dollars_of_mills(price):>13}  {output:11}"
-            f"  {megawatt_hours(energy):>12}  {dollars_of_half_mills(earned):>14}"
+            f"  {megawatt_hours(energy):>12}  {dollars_of_half_mills(earned):>{width}}"
         )
-    energy, profit = megawatt_hours(sum(day.energies)), dollars_of_half_mills(day.profit)
-    lines.append(f"total{'':35}  {energy:>12}  {profit:>14}")
+    lines.append(f"total{'':34}  {megawatt_hours(sum(day.energies)):>12}  {profit:>{width}}")
     lines.append(f"profit {day.profit} half-mills")
     found = "the library" if day.found_by == "library" else f"the program {day.found_by}"
     lines.append(f"{BY[day.reading.by]}; found by {found}")

@@ -7,7 +7,7 @@ from check import Checked, checked, other_length
 from faults import Fault, Refused, named
 from hours import agree, earnings
 from module import giqapsun
-from money import dollars_of_half_mills, dollars_of_mills, machine
+from money import dollars_of_half_mills, dollars_of_mills, machine, widest
 from reading import BY, Reading
 from tables import csv_of, json_of
 from words import ORDERS, printable
@@ -155,15 +155,16 @@ def _difference(first, second):
 
 def better_text(pair):
     """The lists hour by hour, the verdict on each, and which to offer."""
+    width = widest([*pair.first.earnings, *pair.second.earnings])
     lines = [
-        f"{'':26}  {'output (MW)':>15}  {'earnings ($)':>30}",
-        f"hour  order  price ($/MWh)  {'first':>6}   {'second':>6}  {'first':>14}  {'second':>14}",
+        f"{'':26}  {'output (MW)':>15}  {'earnings ($)':>{2 * width + 2}}",
+        f"hour  order  price ($/MWh)  {'first':>6}   {'second':>6}  {'first':>{width}}  {'second':>{width}}",
     ]
     for k, order, price, first, second, earned, others in pair.hours():
         mark = "<" if first < second else ">" if first > second else " "
         lines.append(
             f"{k:4}  {order:5}  {dollars_of_mills(price):>13}  {first:6} {mark} {second:6}"
-            f"  {dollars_of_half_mills(earned):>14}  {dollars_of_half_mills(others):>14}"
+            f"  {dollars_of_half_mills(earned):>{width}}  {dollars_of_half_mills(others):>{width}}"
         )
     lines.append("")
     for house in (pair.first, pair.second):

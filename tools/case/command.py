@@ -14,7 +14,7 @@ from lists import read_list
 from module import giqapsun
 from plot import svg
 from plot_two import svg_of_two
-from prices import prices_text, read_prices
+from prices import Hours, prices_text
 from reading import BY, file_of, read_case, reader
 from show import shown_csv, shown_json, shown_text
 from tables import json_of
@@ -30,13 +30,15 @@ The unit's file holds one key for each field: capacity, minimum, initial (MW), r
 mindown, elapsed (hours), rise, fall (lists of MW), and for each of variable (F, per MWh), fixed (A, per on-line hour),
 startcost (B, per start) and stopcost (C, per stop) either a key in dollars, as variable_dollars, with up to three
 decimals, or one in mills, as variable_mills. The prices' file begins with the line hour,price_dollars or
-hour,price_mills, with ,order after it if any hour has an order, and has a line for each hour. The case is read again
-before it is written: a case that would be refused is not written.
+hour,price_mills, with ,order after it if any hour has an order, and has a line for each hour. A price is from -10,000
+to 10,000 dollars. The file is of form 2. It is read again before it is written: a case that would be refused is not
+written.
 """
 
 SHOW = """\
-With --toml or --prices the files are written that make takes, and nothing is printed: making them again gives the
-same case. A file that would be refused is not shown: the fault says why.
+The form of the file is named: 2, or old. With --toml or --prices the files are written that make takes, and nothing is
+printed: making them again gives the same case, in form 2. A file that would be refused is not shown: the fault says
+why.
 """
 
 CHECK = """\
@@ -62,12 +64,12 @@ class Answer:
 def make(arguments):
     """The file of a unit and its hours."""
     unit = Unit(arguments.unit)
-    case = unit.case()
-    case.prices, case.orders = read_prices(arguments.prices)
+    case, hours = unit.case(), Hours(arguments.prices)
+    case.prices, case.orders = hours.prices, hours.orders
     number, data, faults = file_of(case)
     if number:
         files = f"{named(arguments.unit)}, {named(arguments.prices)}"
-        raise Refused(files, number, [_placed(unit, arguments.prices, *fault) for fault in faults])
+        raise Refused(files, number, [_placed(unit, hours, wrong) for wrong in faults])
     note(reader())
     if arguments.output is not None:
         write(arguments.output, data)
@@ -77,9 +79,11 @@ def make(arguments):
     return Answer(data)
 
 
-def _placed(unit, prices, field, what):
-    """A fault of a field with the file that the field comes from, and its line if it is a key's."""
-    return str(Fault(prices, None, field, what) if field in ("hours", "orders") else unit.fault(field, what))
+def _placed(unit, hours, wrong):
+    """A fault of a field with the file that the field comes from, and its line if it is that of a key or of an hour."""
+    if wrong.field in ("hours", "prices", "orders"):
+        return str(hours.fault(wrong.field, wrong.hour, wrong.what))
+    return str(unit.fault(wrong.field, wrong.what))
 
 
 def show(arguments):

@@ -4,6 +4,8 @@ The number that counts is the library's; these words explain it. Where the libra
 in for it.
 """
 
+from typing import NamedTuple
+
 from module import giqapsun
 from money import dollars_of_mills
 from words import COSTS, ORDERS
@@ -12,11 +14,21 @@ OUTPUT, TIME, ELAPSED = 400, 8, 10_000
 VARIABLE, CHARGE = 1_000_000, 100_000_000
 
 
+class Wrong(NamedTuple):
+    """A field at fault and what is wrong with it; the hour, counted from 1, if it is about one hour."""
+
+    field: str
+    what: str
+    hour: int | None = None
+
+
 def refusal(case):
-    """The first of the numbers 2 to 8 that applies to a case, with each field at fault and what is wrong with
-    it; 0 and none where none applies. The numbers of a case may be any whole numbers."""
-    tests = (_counts, _outputs, _ramps, _costs, _trajectories, _opening, _orders)
-    for number, test in enumerate(tests, 2):
+    """The first number of the refusal list that applies to a case, with each field at fault; 0 and none where none
+    applies. The numbers of a case may be any whole numbers."""
+    tests = {
+        2: _counts, 3: _outputs, 4: _ramps, 5: _costs, 6: _trajectories, 7: _opening, 8: _orders, 13: _prices,
+    }
+    for number, test in tests.items():
         faults = list(test(case))
         if faults:
             return number, faults
@@ -26,7 +38,7 @@ def refusal(case):
 def outside(field, value, least, most):
     """The fault of a field whose value is not from least to most; none where it is."""
     if not least <= value <= most:
-        yield field, f"{value:,}, from {least:,} to {most:,} allowed"
+        yield Wrong(field, f"{value:,}, from {least:,} to {most:,} allowed")
 
 
 def _counts(case):
@@ -38,7 +50,7 @@ def _counts(case):
 def _outputs(case):
     yield from outside("capacity", case.capacity, 1, OUTPUT)
     if not 1 <= case.minimum <= case.capacity:
-        yield "minimum", f"{case.minimum:,}, from 1 to the capacity {case.capacity:,} allowed"
+        yield Wrong("minimum", f"{case.minimum:,}, from 1 to the capacity {case.capacity:,} allowed")
 
 
 def _ramps(case):
@@ -52,7 +64,7 @@ def _costs(case):
     for name in COSTS:
         mills, most = getattr(case, name), VARIABLE if name == "variable" else CHARGE
         if not 0 <= mills <= most:
-            yield name, f"{_money(mills)}, from 0 to {_money(most)} allowed"
+            yield Wrong(name, f"{_money(mills)}, from 0 to {_money(most)} allowed")
 
 
 def _money(mills):
@@ -65,22 +77,31 @@ def _trajectories(case):
         way = "rising" if name == "rise" else "falling"
         shown = ", ".join(map(str, getattr(case, name)))
         if outputs[0] < 1:
-            yield name, f"{shown}, 1 or more allowed"
+            yield Wrong(name, f"{shown}, 1 or more allowed")
         if any(later <= earlier for earlier, later in zip(outputs, outputs[1:])):
-            yield name, f"{shown}, strictly {way} allowed"
+            yield Wrong(name, f"{shown}, strictly {way} allowed")
         if outputs[-1] != case.minimum:
-            yield name, f"{shown}, {way} {ends} the minimum {case.minimum} allowed"
+            yield Wrong(name, f"{shown}, {way} {ends} the minimum {case.minimum} allowed")
 
 
 def _opening(case):
     yield from outside("elapsed", case.elapsed, 1, ELAPSED)
     if case.initial != 0 and not case.minimum <= case.initial <= case.capacity:
-        yield "initial", f"{case.initial:,}, 0 or from {case.minimum} to {case.capacity} allowed"
+        yield Wrong("initial", f"{case.initial:,}, 0 or from {case.minimum} to {case.capacity} allowed")
     elif case.initial > 0 and 1 <= case.elapsed < len(case.rise):
-        yield "elapsed", f"{case.elapsed}, {len(case.rise)} or more (the outputs of rise) allowed with initial above 0"
+        least = f"{len(case.rise)} or more (the outputs of rise)"
+        yield Wrong("elapsed", f"{case.elapsed}, {least} allowed with initial above 0")
 
 
 def _orders(case):
     for hour, order in enumerate(case.orders, 1):
         if not 0 <= order < len(ORDERS):
-            yield "orders", f"{order} at hour {hour}, 0 (free), 1 (on) or 2 (off) allowed"
+            yield Wrong("orders", f"{order} at hour {hour}, 0 (free), 1 (on) or 2 (off) allowed", hour)
+
+
+def _prices(case):
+    least, most = giqapsun.PRICE_LEAST, giqapsun.PRICE_MOST
+    for hour, price in enumerate(case.prices, 1):
+        if not least <= price <= most:
+            allowed = f"from {_money(least)} to {_money(most)} allowed"
+            yield Wrong("prices", f"{_money(price)} at hour {hour}, {allowed}", hour)

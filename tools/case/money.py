@@ -28,6 +28,11 @@ def dollars_of_half_mills(half_mills):
     return decimal(5 * half_mills, 10000, 4)
 
 
+def widest(half_mills):
+    """The letters of a column that holds these amounts in dollars, and 14 at the least."""
+    return max(14, *(len(dollars_of_half_mills(amount)) for amount in half_mills))
+
+
 def megawatt_hours(halves):
     """Energy in half-megawatt-hours as MWh with one decimal."""
     return decimal(5 * halves, 10, 1)

@@ -9,10 +9,13 @@ from html import escape
 from itertools import groupby
 
 from money import dollars_of_mills
-from words import ORDERS
+from words import ORDERS, counted
 
-WIDTH = 960
-LEFT, RIGHT = 84, 846
+WIDTH = 976
+LEFT, RIGHT = 100, 862
+
+# from the bottom of a panel to the amounts that stand below it
+BELOW = 28
 
 STYLE = """\
 text { font-family: 'DejaVu Sans', Verdana, sans-serif; font-size: 12px; fill: #1a1a1a; }
@@ -28,6 +31,8 @@ text { font-family: 'DejaVu Sans', Verdana, sans-serif; font-size: 12px; fill: #
 .output { stroke: #1f5fa8; }
 .other { stroke: #8a2f7c; stroke-dasharray: 7 4; }
 .price { stroke: #a34a17; }
+.cut { fill: #a34a17; }
+.far { fill: #1a1a1a; }
 .area { fill: #1f5fa8; fill-opacity: 0.12; }
 .dot { fill: #1f5fa8; stroke: #1f5fa8; stroke-width: 1.5; }
 .before { fill: #ffffff; }
@@ -56,6 +61,8 @@ text { fill: #ececec; }
 .output { stroke: #7ab3f2; }
 .other { stroke: #e59ad8; }
 .price { stroke: #f0a070; }
+.cut { fill: #f0a070; }
+.far { fill: #ececec; }
 .area { fill: #7ab3f2; fill-opacity: 0.2; }
 .dot { fill: #7ab3f2; stroke: #7ab3f2; }
 .before { fill: #16181c; }
@@ -109,7 +116,7 @@ class Panel:
                 yield text(x, self.bottom + 19, str(hour), anchor="middle")
         yield line(LEFT, self.top, LEFT, self.bottom, "axis")
         yield line(LEFT, self.y(0), RIGHT, self.y(0), "axis")
-        yield turned(22, (self.top + self.bottom) / 2, label, anchor="middle")
+        yield turned(18, (self.top + self.bottom) / 2, label, anchor="middle")
 
     def shades(self, orders):
         """A hatch behind the hours that have an order."""
@@ -121,6 +128,25 @@ class Panel:
         for order, start, end in _runs(orders):
             yield text(self.x((start + end) / 2), self.top - 4, order, anchor="middle", kind="letters")
 
+    def amount(self, hour, words):
+        """An amount of an hour, upwards below the panel."""
+        return turned(self.x(hour - 0.5) + 3.5, self.bottom + BELOW, words, anchor="end", kind="amount")
+
+    def level(self, amount):
+        """An amount, or the end of the scale where it is off it."""
+        return min(max(amount, self.least), self.most)
+
+    def cuts(self, amounts, noun, kind):
+        """A triangle for each hour whose amount is off the scale, at the edge that it passes; how many there are."""
+        words = []
+        for mark, side, edge, way in (("\u25b2", "above", self.top, 1), ("\u25bc", "below", self.bottom, -1)):
+            hours = [hour for hour, amount in enumerate(amounts, 1) if way * amount > way * self.level(amount)]
+            yield from (triangle(self.x(hour - 0.5), edge, way, kind) for hour in hours)
+            if hours:
+                words.append(f"{mark} {counted(len(hours), noun)} {side} this scale")
+        if words:
+            yield text(LEFT, self.top - 12, ", ".join(words), kind="note")
+
     def limits(self, named, gap=14):
         """Dashed lines for amounts with a name; the names stand to the right, kept apart."""
         lowest = self.bottom + 4
@@ -129,6 +155,15 @@ class Panel:
             lowest = min(y + 4, lowest - gap)
             yield line(LEFT, y, RIGHT, y, "limit")
             yield text(RIGHT + 8, lowest, name, kind="note")
+
+
+def scale(amounts):
+    """The ends of a scale for amounts, 0 among them. It is made for those at most three times as far from 0 as three
+    quarters of the amounts are, zeros not counted, so that a spike does not flatten all others."""
+    sizes = sorted(abs(amount) for amount in amounts if amount) or [0]
+    far = 3 * sizes[-(-3 * len(sizes) // 4) - 1]
+    near = [amount for amount in amounts if abs(amount) <= far]
+    return min(0, *near), max(0, *near)
 
 
 def picture(height, heading, note, orders, parts):
@@ -169,22 +204,39 @@ class Outputs(Panel):
         return [self.point(hour, output) for hour, output in enumerate([self.case.initial, *outputs])]
 
 
-def prices_panel(case, place):
-    """The price of each hour, level from its beginning to its end, and F; F off the scale is noted."""
-    highest, cost = max(case.prices), case.variable
-    shown = cost <= 2 * highest
-    panel = Panel(len(case.prices), 0, max(highest, cost if shown else 0), place)
-    yield from panel.shades(case.orders)
-    yield from panel.frame("price ($/MWh)", lambda mills: short(dollars_of_mills(mills)))
-    if shown:
-        yield from panel.limits([(cost, "variable cost F")])
-    else:
-        note = f"variable cost F {dollars_of_mills(cost)} $/MWh is above this scale"
-        yield text(RIGHT, panel.top - 8, note, anchor="end", kind="note")
-    points = []
-    for hour, price in enumerate(case.prices, 1):
-        points += [panel.point(hour - 1, price), panel.point(hour, price)]
-    yield polyline(points, "line price")
+class Prices(Panel):
+    """The panel of prices. F is on it unless it would more than double the scale."""
+
+    def __init__(self, case, place):
+        low, high = scale(case.prices)
+        self.case, self.holds_cost = case, case.variable - low <= 2 * (high - low)
+        super().__init__(len(case.prices), low, max(high, case.variable if self.holds_cost else 0), place)
+
+    def drawn(self):
+        """The price of each hour, level from its beginning to its end, with its number below; and F."""
+        prices, cost = self.case.prices, self.case.variable
+        yield from self.shades(self.case.orders)
+        yield from self.frame("price ($/MWh)", lambda mills: short(dollars_of_mills(mills)))
+        if self.holds_cost:
+            yield from self.limits([(cost, "variable cost F")])
+        else:
+            words = f"variable cost F {dollars_of_mills(cost)} $/MWh is above this scale"
+            yield text(RIGHT, self.top - 12, words, anchor="end", kind="note")
+        for hour, price in enumerate(prices, 1):
+            yield self.amount(hour, dollars_of_mills(price))
+        yield from self.cuts(prices, "price", "cut")
+        yield from (polyline(points, "line price") for points in self._lines(prices) if len(set(points)) > 1)
+
+    def _lines(self, prices):
+        """The points of each line: one for the whole day, with a gap where a price is off the scale."""
+        points = []
+        for hour, price in enumerate(prices, 1):
+            points.append(self.point(hour - 1, self.level(price)))
+            if self.level(price) != price:
+                yield points
+                points = []
+            points.append(self.point(hour, self.level(price)))
+        yield points
 
 
 def hovers(hours, place, titles):
@@ -249,6 +301,11 @@ def square(point):
     """A square about a point, which leaves room for a dot in it."""
     x, y = map(float, point.split(","))
     return rect(x - 5.5, y - 5.5, 11, 11, "square")
+
+
+def triangle(x, y, way, kind):
+    """A triangle on an edge that points away from it, up (1) or down (-1)."""
+    return f'<polygon class="{kind}" points="{x - 5:.1f},{y:.1f} {x + 5:.1f},{y:.1f} {x:.1f},{y - 8 * way:.1f}"/>'
 
 
 def line(x1, y1, x2, y2, kind):

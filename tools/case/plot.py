@@ -2,12 +2,11 @@
 hatched and stand below 0."""
 
 from money import decimal, dollars_of_half_mills, dollars_of_mills, megawatt_hours
-from picture import Outputs, Panel, dot, hovers, ordered, picture, polyline, prices_panel, rect, short, turned
+from picture import Outputs, Panel, Prices, dot, hovers, ordered, picture, polyline, rect, scale, short
 from words import printable
 
-HEIGHT = 850
-OUTPUTS, PRICES, EARNINGS = (96, 306), (364, 494), (552, 702)
-AMOUNTS = 730
+HEIGHT = 916
+OUTPUTS, PRICES, EARNINGS = (96, 306), (364, 494), (618, 768)
 
 
 def svg(day, name):
@@ -17,7 +16,7 @@ def svg(day, name):
     earned = f"profit {profit} $, energy {energy} MWh, variable cost F {dollars_of_mills(case.variable)} $/MWh"
     parts = [
         *_outputs(case, day.outputs),
-        *prices_panel(case, PRICES),
+        *Prices(case, PRICES).drawn(),
         *_earnings(case, day.earnings),
         *hovers(len(day.outputs), (OUTPUTS[0], EARNINGS[1]), map(_title, day.hours())),
     ]
@@ -39,14 +38,15 @@ def _outputs(case, outputs):
 def _earnings(case, earnings):
     """What each hour earns: a bar, and the amount below it."""
     parts = [5 * earned for earned in earnings]
-    panel = Panel(len(earnings), min(0, *parts), max(0, *parts), EARNINGS)
+    panel = Panel(len(earnings), *scale(parts), EARNINGS)
     yield from panel.shades(case.orders)
     yield from panel.frame("earnings ($)", lambda amount: short(decimal(amount, 10_000, 4)))
     for hour, (part, earned) in enumerate(zip(parts, earnings), 1):
         x, width = panel.x(hour - 0.82), panel.x(0.64) - panel.x(0)
-        top, bottom = panel.y(max(part, 0)), panel.y(min(part, 0))
+        top, bottom = panel.y(panel.level(max(part, 0))), panel.y(panel.level(min(part, 0)))
         yield rect(x, top, width, bottom - top, "gain" if part > 0 else "loss")
-        yield turned(panel.x(hour - 0.5) + 3.5, AMOUNTS, dollars_of_half_mills(earned), anchor="end", kind="amount")
+        yield panel.amount(hour, dollars_of_half_mills(earned))
+    yield from panel.cuts(parts, "amount", "far")
 
 
 def _title(hour):

@@ -3,10 +3,10 @@ dots, the second a dashed line with squares, so that they are told apart without
 each hour where they differ."""
 
 from money import dollars_of_half_mills, dollars_of_mills
-from picture import LEFT, RIGHT, Outputs, dot, hovers, ordered, picture, polyline, prices_panel, rect, square, text
+from picture import LEFT, RIGHT, Outputs, Prices, dot, hovers, ordered, picture, polyline, rect, square, text
 from words import printable
 
-HEIGHT = 640
+HEIGHT = 714
 OUTPUTS, PRICES = (140, 370), (444, 584)
 
 # how each list is drawn, and where its key stands
@@ -25,7 +25,7 @@ def svg_of_two(pair, name):
         *_key(pair.first),
         *_key(pair.second),
         *_outputs(pair),
-        *prices_panel(case, PRICES),
+        *Prices(case, PRICES).drawn(),
         *hovers(len(case.prices), (OUTPUTS[0], PRICES[1]), map(_title, pair.hours())),
     ]
     return picture(HEIGHT, f"Two lists for {printable(name)}", f"offer {which}: {pair.why()}", case.orders, parts)

@@ -1,7 +1,8 @@
 """The hours of a day, from a CSV file.
 
 The first line names the columns: hour, then price_dollars or price_mills (per MWh), and order if any
-hour has one. A line for each hour follows, hours 1, 2, 3 and so on. An order is free, on or off.
+hour has one. A line for each hour follows, hours 1, 2, 3 and so on. A price may be below 0. An order is
+free, on or off.
 """
 
 from faults import Fault, quoted
@@ -11,19 +12,23 @@ from words import ORDERS
 
 PRICES = ("price_dollars", "price_mills")
 
-# the largest price, the most that 16 bits hold
-MOST = 2**16 - 1
 
+class Hours:
+    """The hours of a file: prices in mills per MWh and order bytes, with the line of each hour."""
 
-def read_prices(file):
-    """The prices in mills per MWh and the order bytes, hour by hour."""
-    table = Table(file, ("hour", *PRICES, "order"))
-    column = _price_column(table)
-    prices, orders = [], []
-    for line, row in table.hours():
-        prices.append(_price(file, line, column, row[column]))
-        orders.append(_order(file, line, row.get("order", ORDERS[0])))
-    return prices, orders
+    def __init__(self, file):
+        table = Table(file, ("hour", *PRICES, "order"))
+        self.file, self.column = file, _price_column(table)
+        self.prices, self.orders, self.lines = [], [], []
+        for line, row in table.hours():
+            self.prices.append(_price(file, line, self.column, row[self.column]))
+            self.orders.append(_order(file, line, row.get("order", ORDERS[0])))
+            self.lines.append(line)
+
+    def fault(self, field, hour, what):
+        """A fault of a field of the case that this file gives; with the line of the hour, if it is about one."""
+        line = self.lines[hour - 1] if hour else None
+        return Fault(self.file, line, self.column if field == "prices" else field, what)
 
 
 def prices_text(case):
@@ -44,15 +49,11 @@ def _price_column(table):
 
 def _price(file, line, column, cell):
     if column == "price_dollars":
-        mills, most = mills_of_dollars(cell), dollars_of_mills(MOST)
-        kind = "a price in dollars with up to three decimals"
+        mills, kind = mills_of_dollars(cell), "a price in dollars with up to three decimals"
     else:
-        mills, most = int(cell) if WHOLE.fullmatch(cell) else None, f"{MOST:,}"
-        kind = "a price in whole mills"
+        mills, kind = int(cell) if WHOLE.fullmatch(cell) else None, "a price in whole mills"
     if mills is None:
         raise Fault(file, line, column, f"{quoted(cell)} is not {kind}")
-    if not 0 <= mills <= MOST:
-        raise Fault(file, line, column, f"{cell}, from 0 to {most} allowed")
     return mills
 
 

@@ -4,7 +4,7 @@ built."""
 from dataclasses import dataclass
 
 from faults import Fault, Refused
-from layout import bytes_of, case_of
+from layout import bytes_of, case_of, form_of
 from limits import refusal
 from module import giqapsun
 
@@ -17,10 +17,11 @@ BY = {
 
 @dataclass
 class Reading:
-    """A case, and who has read it: `library` or `tool`."""
+    """A case, who has read it, `library` or `tool`, and the form of its file, `old` or its number."""
 
     case: giqapsun.Case
     by: str
+    form: str | int
 
 
 def built():
@@ -39,9 +40,9 @@ def read_case(file, data):
         number, case, faults = case_of(data)
         if number:
             raise Refused(file, number, faults)
-        return Reading(case, "tool")
+        return Reading(case, "tool", form_of(data))
     try:
-        return Reading(giqapsun.read(data), "library")
+        return Reading(giqapsun.read(data), "library", form_of(data))
     except giqapsun.Refusal as refused:
         raise Refused(file, refused.number, explained(refused.number, data)) from None
 

@@ -2,16 +2,21 @@
 
 from dataclasses import asdict
 
+from layout import FORM, OLD
 from money import dollars_of_mills
 from reading import BY
 from tables import csv_of, json_of
 from words import COSTS, NUMBERS, ORDERS, TRAJECTORIES, UNIT
 
+# what the form of a file says
+_FORMS = {FORM: ", with signed 32-bit prices", OLD: f", with 16-bit prices; form {FORM} is the one that is written"}
+
 
 def shown_text(reading):
     """The text of a case."""
     case = reading.case
-    lines = [_cost(case, name) if name in COSTS else _number(case, name) for name in UNIT]
+    lines = [f"{'form':9} {reading.form:>11} {'':13} of the file{_FORMS.get(reading.form, '')}"]
+    lines += [_cost(case, name) if name in COSTS else _number(case, name) for name in UNIT]
     lines += [_trajectory(case, name) for name in TRAJECTORIES]
     lines.append(f"{'hours':9} {len(case.prices):>11} {'':13} T, the hours of the day")
     lines += ["", "hour  price (mills/MWh)  price ($/MWh)  order"]
@@ -21,13 +26,13 @@ def shown_text(reading):
 
 
 def shown_json(reading):
-    """The case as the record has it: MW, hours, mills, order bytes."""
-    return json_of({"case": asdict(reading.case), "read_by": reading.by})
+    """The form of the file, and the case as the record has it: MW, hours, mills, order bytes."""
+    return json_of({"form": reading.form, "case": asdict(reading.case), "read_by": reading.by})
 
 
 def shown_csv(reading):
-    """The case as a table: a row for each number, with its place in a list, counted from 1."""
-    rows = []
+    """The case as a table: a row for each number, with its place in a list, counted from 1; the form comes first."""
+    rows = [("form", "", reading.form)]
     for name, value in asdict(reading.case).items():
         entries = enumerate(value, 1) if isinstance(value, list) else [("", value)]
         rows += [(name, i, entry) for i, entry in entries]
