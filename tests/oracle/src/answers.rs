@@ -1,5 +1,5 @@
-//! What each of the four calls answers (scope, "Refusal list" and "Rules of a list"), and the text
-//! of the program (scope, "Known days").
+//! What each of the four calls answers (scope, "Refusal list" and "Rules of a list"; request F-2), and the text of the
+//! program (scope, "Known days").
 
 use crate::best::Plan;
 use crate::case::Case;
@@ -40,7 +40,7 @@ pub struct Schedule {
     pub list: Vec<u16>,
 }
 
-/// Reading tests 1 to 8.
+/// Reading tests 1, 2, 12, 3 to 8 and 13.
 pub fn reading(bytes: &[u8]) -> Reading {
     match file::read(bytes) {
         Ok(case) => Reading { number: 0, case },
@@ -48,7 +48,7 @@ pub fn reading(bytes: &[u8]) -> Reading {
     }
 }
 
-/// Writing into so many lent bytes tests 2 to 8, then 10.
+/// Writing into so many lent bytes tests 2 to 8 and 13, then 10.
 pub fn writing(case: &Case, lent_bytes: usize) -> Writing {
     let tested = file::write(case).and_then(|bytes| {
         refusals::file_memory(bytes.len(), lent_bytes)?;
@@ -60,7 +60,7 @@ pub fn writing(case: &Case, lent_bytes: usize) -> Writing {
     }
 }
 
-/// The check tests 2 to 8, then 9, then the rules.
+/// The check tests 2 to 8 and 13, then 9, then the rules.
 pub fn verdict(case: &Case, list: &[u16]) -> Verdict {
     let tested = refusals::record(case).and_then(|()| refusals::list_length(case, list.len()));
     if let Err(number) = tested {
@@ -72,7 +72,7 @@ pub fn verdict(case: &Case, list: &[u16]) -> Verdict {
     }
 }
 
-/// The search tests 2 to 8, then 10, then 11: `search` found nothing.
+/// The search tests 2 to 8 and 13, then 10, then 11: `search` found nothing.
 pub fn schedule(
     case: &Case,
     working_numbers: usize,

@@ -1,4 +1,5 @@
-//! The case record (scope, "Case file"): the fields of a case and the counts UD, DD and T.
+//! The case record (scope, "Case file"): the fields of a case and the counts UD, DD and T. Prices are signed 32-bit
+//! numbers of mills (request F-2), and so are the costs: 32 bits of a file of 2^31 or more are a cost below zero.
 
 /// Most entries of a start-up or shut-down trajectory.
 pub const MOST_STAGES: usize = 8;
@@ -25,10 +26,10 @@ pub struct Case {
     pub min_up: u16,
     pub min_down: u16,
     /// F in mills per MWh, A in mills per on-line hour, B in mills per start, C per stop.
-    pub f: u32,
-    pub a: u32,
-    pub b: u32,
-    pub c: u32,
+    pub f: i32,
+    pub a: i32,
+    pub b: i32,
+    pub c: i32,
     /// Output p(0), and the hours the unit has been on-line or off-line before hour 1.
     pub p0: u16,
     pub h: u16,
@@ -36,7 +37,7 @@ pub struct Case {
     pub pu: [u16; MOST_STAGES],
     pub pd: [u16; MOST_STAGES],
     /// Price in mills per MWh and order of each hour.
-    pub prices: [u16; MOST_HOURS],
+    pub prices: [i32; MOST_HOURS],
     pub orders: [u8; MOST_HOURS],
     /// Counts UD, DD and T.
     pub ud: usize,

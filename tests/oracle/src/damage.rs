@@ -1,29 +1,40 @@
-//! Random files, most of them damaged: bits, lengths, sections, pairs and limits.
+//! Random files of both forms, most of them damaged: bits, lengths, sections, pairs, forms and limits.
 
 use crate::case::Case;
-use crate::file::{assemble, sections};
+use crate::file::{assemble, assemble_with_gap, old_sections, sections};
 use crate::random::Rng;
-use crate::units::{full_day, longer_day, small_unit};
+use crate::refusals::PAIR_BYTES;
+use crate::units::{full_day, longer_day, set_old_prices, small_unit};
 use crate::wild::set_near_limit;
+
+/// Form numbers that come up most: 512 is 2 with its bytes swapped, 258 is 2 with another high byte.
+const FORM_NUMBERS: [u16; 10] = [0, 1, 2, 3, 4, 255, 256, 258, 512, 65_535];
+
+/// Lengths of a form section.
+const FORM_LENGTHS: [usize; 8] = [0, 1, 2, 3, 4, 5, 256, 258];
 
 /// The file of a random case with one damage, or more once in a while.
 pub fn damaged_file(rng: &mut Rng) -> Vec<u8> {
     let mut case = any_case(rng);
-    let mut parts = match rng.below(3) {
-        0 => {
-            set_near_limit(rng, &mut case);
-            return assemble(&sections(&case));
+    let old = rng.once_in(2);
+    if old {
+        set_old_prices(&mut case);
+    }
+    match rng.below(6) {
+        0 | 1 => beyond_a_limit(rng, case, old),
+        2 => of_another_form(rng, &case, old),
+        _ => {
+            let mut parts = sections_of(&case, old);
+            if rng.once_in(3) {
+                damage_sections(rng, &mut parts);
+            }
+            let mut file = assemble(&parts);
+            for _ in 0..rng.pick(&[0, 1, 1, 1, 2]) {
+                damage_file(rng, &mut file);
+            }
+            file
         }
-        _ => sections(&case),
-    };
-    if rng.once_in(3) {
-        damage_sections(rng, &mut parts);
     }
-    let mut file = assemble(&parts);
-    for _ in 0..rng.pick(&[0, 1, 1, 1, 2]) {
-        damage_file(rng, &mut file);
-    }
-    file
 }
 
 /// A case within the limits.
@@ -35,13 +46,96 @@ fn any_case(rng: &mut Rng) -> Case {
     }
 }
 
+/// The sections of a case: four of the old form, or five of form 2.
+fn sections_of(case: &Case, old: bool) -> Vec<Vec<u8>> {
+    if old {
+        old_sections(case).to_vec()
+    } else {
+        sections(case).to_vec()
+    }
+}
+
+/// A whole file with one to three fields at a limit or past it, once in a while with another form number.
+fn beyond_a_limit(rng: &mut Rng, mut case: Case, old: bool) -> Vec<u8> {
+    for _ in 0..rng.pick(&[1, 1, 1, 2, 2, 3]) {
+        set_near_limit(rng, &mut case);
+    }
+    let mut parts = sections_of(&case, old);
+    if !old && rng.once_in(8) {
+        parts[4] = rng.pick(&FORM_NUMBERS).to_le_bytes().to_vec();
+    }
+    assemble(&parts)
+}
+
+/// What one form has, under the pairs of the other; other first offsets; form sections and form numbers.
+fn of_another_form(rng: &mut Rng, case: &Case, old: bool) -> Vec<u8> {
+    let (four, five) = (old_sections(case), sections(case));
+    let [unit, start_up, shut_down, hours, form] = five.clone();
+    let [.., old_hours] = four.clone();
+    match rng.below(12) {
+        // the hours of the other form
+        0 => assemble(&[unit, start_up, shut_down, old_hours, form]),
+        1 => assemble(&[unit, start_up, shut_down, hours]),
+        // the form section under no pair, and at the end of the hours
+        2 => [assemble(&[unit, start_up, shut_down, hours]), form].concat(),
+        3 => assemble(&[unit, start_up, shut_down, [hours, form].concat()]),
+        // five pairs, the last of nothing; five pairs of the old form
+        4 => assemble(&[unit, start_up, shut_down, old_hours, Vec::new()]),
+        // hours of 4 bytes
+        5 => {
+            let mut parts = sections_of(case, old);
+            resize(rng, &mut parts[3], 4 * case.t);
+            assemble(&parts)
+        }
+        // a chain in order from another first offset on
+        6 => {
+            let count = rng.pick(&[1, 2, 2, 4, 4, 4, 8, 12]);
+            let gap = rng.bytes(count);
+            assemble_with_gap(&sections_of(case, old), &gap)
+        }
+        // a sixth section
+        7 => assemble(&[unit, start_up, shut_down, hours, form.clone(), form]),
+        // another form number, alone, or with a length that no form has
+        8 | 9 => {
+            let mut parts = five.to_vec();
+            parts[4] = rng.pick(&FORM_NUMBERS).to_le_bytes().to_vec();
+            if rng.once_in(3) {
+                let i = rng.place(0, 3);
+                let length = section_length_near_limit(rng, i, false);
+                resize(rng, &mut parts[i], length);
+            }
+            assemble(&parts)
+        }
+        // a form section of another length
+        10 => {
+            let mut parts = five.to_vec();
+            let length = rng.pick(&FORM_LENGTHS);
+            resize(rng, &mut parts[4], length);
+            assemble(&parts)
+        }
+        // hardly more than the pairs
+        _ => {
+            let count = rng.pick(&[4, 5]);
+            let mut file = if rng.once_in(2) {
+                assemble(&vec![Vec::new(); count])
+            } else {
+                assemble(&sections_of(case, count == 4))
+            };
+            let length = rng.place(14, 21);
+            resize(rng, &mut file, length);
+            file
+        }
+    }
+}
+
 /// Changes whole sections; the pairs will belong to the changed ones.
-fn damage_sections(rng: &mut Rng, parts: &mut [Vec<u8>; 4]) {
-    let (i, j) = (rng.place(0, 3), rng.place(0, 3));
+fn damage_sections(rng: &mut Rng, parts: &mut [Vec<u8>]) {
+    let last = parts.len() - 1;
+    let (i, j) = (rng.place(0, last), rng.place(0, last));
     match rng.below(5) {
         0 => parts.swap(i, j),
         1 | 2 => {
-            let length = section_length_near_limit(rng, i);
+            let length = section_length_near_limit(rng, i, last == 3);
             resize(rng, &mut parts[i], length);
         }
         3 => resize_by_one(rng, &mut parts[i]),
@@ -50,11 +144,13 @@ fn damage_sections(rng: &mut Rng, parts: &mut [Vec<u8>; 4]) {
 }
 
 /// A length at or next to a limit of the section.
-fn section_length_near_limit(rng: &mut Rng, section: usize) -> usize {
+fn section_length_near_limit(rng: &mut Rng, section: usize, old: bool) -> usize {
     match section {
-        0 => rng.pick(&[0, 16, 31, 32, 33, 34, 64]),
+        0 => rng.pick(&[0, 16, 30, 31, 32, 33, 34, 64]),
         1 | 2 => rng.pick(&[0, 1, 2, 3, 4, 15, 16, 17, 18, 32, 256, 258]),
-        _ => rng.pick(&[0, 1, 2, 3, 4, 5, 6, 142, 143, 144, 145, 146, 147, 288, 256, 768]),
+        3 if old => rng.pick(&[0, 1, 2, 3, 4, 5, 6, 142, 143, 144, 145, 146, 147, 288, 256, 768]),
+        3 => rng.pick(&[0, 1, 3, 4, 5, 6, 9, 10, 144, 235, 239, 240, 241, 245, 256, 480, 1_280]),
+        _ => rng.pick(&FORM_LENGTHS),
     }
 }
 
@@ -73,10 +169,10 @@ fn resize_by_one(rng: &mut Rng, part: &mut Vec<u8>) {
 
 /// Long sections, so that the chain or its end comes near to or past 65,536. Where the whole chain
 /// fits in 16-bit offsets and lengths, it is in order all the same.
-fn lengthen_past_16_bits(rng: &mut Rng, parts: &mut [Vec<u8>; 4]) {
+fn lengthen_past_16_bits(rng: &mut Rng, parts: &mut [Vec<u8>]) {
     let total: usize = parts.iter().map(Vec::len).sum();
-    let i = rng.place(0, 3);
-    let room = 65_535 - 16 - (total - parts[i].len());
+    let i = rng.place(0, parts.len() - 1);
+    let room = 65_535 - PAIR_BYTES * parts.len() - (total - parts[i].len());
     let length = match rng.below(4) {
         0 => 65_535,
         1 => room + rng.place(0, 3),
@@ -88,8 +184,8 @@ fn lengthen_past_16_bits(rng: &mut Rng, parts: &mut [Vec<u8>; 4]) {
 
 /// Changes the bytes of a file.
 fn damage_file(rng: &mut Rng, file: &mut Vec<u8>) {
-    match rng.below(14) {
-        0 | 1 => flip_bits(rng, file, 16),
+    match rng.below(16) {
+        0 | 1 => flip_bits(rng, file, 20),
         2 | 3 => flip_bits(rng, file, usize::MAX),
         4 => truncate(rng, file),
         5 => extend(rng, file),
@@ -99,8 +195,9 @@ fn damage_file(rng: &mut Rng, file: &mut Vec<u8>) {
         10 => move_boundary(rng, file),
         11 => wrap_sum(rng, file),
         12 => wrap_end(rng, file),
+        13 | 14 => change_first_offset(rng, file),
         _ => {
-            let length = rng.pick(&[0, 1, 15, 16, 17, 48, 61, 100, 4096]);
+            let length = rng.pick(&[0, 1, 15, 16, 17, 19, 20, 21, 48, 61, 100, 4096]);
             *file = rng.bytes(length);
         }
     }
@@ -118,12 +215,13 @@ fn flip_bits(rng: &mut Rng, file: &mut [u8], among: usize) {
     }
 }
 
-/// Cuts the file by a few bytes, or anywhere.
+/// Cuts the file by a few bytes, to hardly more than its pairs, or anywhere.
 fn truncate(rng: &mut Rng, file: &mut Vec<u8>) {
-    let length = match rng.below(4) {
+    let length = match rng.below(5) {
         0 => file.len().saturating_sub(1),
-        1 => file.len().saturating_sub(3),
+        1 => file.len().saturating_sub(rng.pick(&[2, 3, 5])),
         2 => rng.place(0, 17).min(file.len()),
+        3 => rng.place(16, 20).min(file.len()),
         _ => rng.place(0, file.len()),
     };
     file.truncate(length);
@@ -131,12 +229,12 @@ fn truncate(rng: &mut Rng, file: &mut Vec<u8>) {
 
 /// Adds bytes at the end: few, or so many that the length is the old one plus 65,536.
 fn extend(rng: &mut Rng, file: &mut Vec<u8>) {
-    let count = rng.pick(&[1, 2, 3, 6, 100, 65_536]);
+    let count = rng.pick(&[1, 2, 3, 5, 6, 100, 65_536]);
     let more = rng.bytes(count);
     file.extend(more);
 }
 
-/// Number i of the eight numbers at the head: offset and length of each pair in turn.
+/// Number i of those at the head: offset and length of each pair in turn.
 fn head_number(file: &[u8], i: usize) -> u16 {
     u16::from_le_bytes([file[2 * i], file[2 * i + 1]])
 }
@@ -146,15 +244,28 @@ fn set_head_number(file: &mut [u8], i: usize, number: u16) {
     file[2 * i..2 * i + 2].copy_from_slice(&number.to_le_bytes());
 }
 
-/// Whether the file has a head.
-fn has_head(file: &[u8]) -> bool {
-    file.len() >= 16
+/// The pairs at the head: five if the first offset is 20, four otherwise, as far as the file has them.
+fn pairs(file: &[u8]) -> usize {
+    let wanted = if file.starts_with(&[20, 0]) { 5 } else { 4 };
+    if file.len() < wanted * PAIR_BYTES {
+        return 0;
+    }
+    wanted
+}
+
+/// Changes the first offset alone.
+fn change_first_offset(rng: &mut Rng, file: &mut [u8]) {
+    if pairs(file) > 0 {
+        let offset = rng.pick(&[0, 4, 12, 15, 16, 16, 17, 18, 19, 20, 20, 21, 22, 24, 32, 272, 276, 65_535]);
+        set_head_number(file, 0, offset);
+    }
 }
 
 /// Swaps two pairs and leaves the sections.
 fn swap_pairs(rng: &mut Rng, file: &mut [u8]) {
-    if has_head(file) {
-        let (i, j) = (rng.place(0, 3), rng.place(0, 3));
+    let pairs = pairs(file);
+    if pairs > 0 {
+        let (i, j) = (rng.place(0, pairs - 1), rng.place(0, pairs - 1));
         for half in 0..2 {
             let (first, second) = (head_number(file, 2 * i + half), head_number(file, 2 * j + half));
             set_head_number(file, 2 * i + half, second);
@@ -165,23 +276,26 @@ fn swap_pairs(rng: &mut Rng, file: &mut [u8]) {
 
 /// Moves all offsets by the same number, once in a while with the bytes to match.
 fn shift_offsets(rng: &mut Rng, file: &mut Vec<u8>) {
-    if has_head(file) {
-        let step = rng.pick(&[1, 2, 16, 65_535]);
-        for pair in 0..4 {
+    let pairs = pairs(file);
+    if pairs > 0 {
+        let step = rng.pick(&[1, 2, 4, 16, 65_535, 65_532]);
+        for pair in 0..pairs {
             let offset = head_number(file, 2 * pair).wrapping_add(step);
             set_head_number(file, 2 * pair, offset);
         }
         if rng.once_in(2) && step < 100 {
             let gap = rng.bytes(step.into());
-            file.splice(16..16, gap);
+            let end = PAIR_BYTES * pairs;
+            file.splice(end..end, gap);
         }
     }
 }
 
 /// Changes one number of the head by one.
 fn change_pair_by_one(rng: &mut Rng, file: &mut [u8]) {
-    if has_head(file) {
-        let i = rng.place(0, 7);
+    let pairs = pairs(file);
+    if pairs > 0 {
+        let i = rng.place(0, 2 * pairs - 1);
         let step = rng.pick(&[1, 65_535]);
         set_head_number(file, i, head_number(file, i).wrapping_add(step));
     }
@@ -189,9 +303,10 @@ fn change_pair_by_one(rng: &mut Rng, file: &mut [u8]) {
 
 /// Moves the boundary between two sections, so that the chain stays whole.
 fn move_boundary(rng: &mut Rng, file: &mut [u8]) {
-    if has_head(file) {
-        let pair = rng.place(0, 2);
-        let step = rng.pick(&[1, 2, 3, 65_535, 65_534, 65_533]);
+    let pairs = pairs(file);
+    if pairs > 0 {
+        let pair = rng.place(0, pairs - 2);
+        let step = rng.pick(&[1, 2, 3, 5, 65_535, 65_534, 65_533, 65_531]);
         let length = head_number(file, 2 * pair + 1).wrapping_add(step);
         let next_offset = head_number(file, 2 * pair + 2).wrapping_add(step);
         let next_length = head_number(file, 2 * pair + 3).wrapping_sub(step);
@@ -204,10 +319,12 @@ fn move_boundary(rng: &mut Rng, file: &mut [u8]) {
 /// Makes a chain that is in order only if sums wrap at 65,536: one section reaches past it, the
 /// offsets go on from the small number that is left, and the file ends where the last one does.
 fn wrap_sum(rng: &mut Rng, file: &mut Vec<u8>) {
-    if has_head(file) {
-        let wrapping = rng.place(0, 3);
-        let mut offset: u16 = 16;
-        for pair in 0..4 {
+    let pairs = pairs(file);
+    if pairs > 0 {
+        let head = PAIR_BYTES * pairs;
+        let wrapping = rng.place(0, pairs - 1);
+        let mut offset = head as u16;
+        for pair in 0..pairs {
             let length = match pair == wrapping {
                 true => 65_535 - rng.between16(0, offset.saturating_sub(1)),
                 false => head_number(file, 2 * pair + 1),
@@ -216,7 +333,7 @@ fn wrap_sum(rng: &mut Rng, file: &mut Vec<u8>) {
             set_head_number(file, 2 * pair + 1, length);
             offset = offset.wrapping_add(length);
         }
-        resize(rng, file, usize::from(offset).max(16));
+        resize(rng, file, usize::from(offset).max(head));
     }
 }
 
@@ -224,9 +341,12 @@ fn wrap_sum(rng: &mut Rng, file: &mut Vec<u8>) {
 /// bytes earlier.
 fn wrap_end(rng: &mut Rng, file: &mut Vec<u8>) {
     let (first, second) = (rng.between16(20_000, 30_000), rng.between16(20_000, 30_000));
-    let third = 65_000 - 16 - first - second + rng.between16(0, 535);
-    let fourth = rng.between16(600, 900);
-    let parts = [first, second, third, fourth].map(|length| rng.bytes(length.into()));
+    let third = 65_000 - 20 - first - second + rng.between16(0, 535);
+    let mut lengths = vec![first, second, third, rng.between16(600, 900)];
+    if rng.once_in(2) {
+        lengths.insert(2, 0);
+    }
+    let parts: Vec<Vec<u8>> = lengths.iter().map(|&length| rng.bytes(length.into())).collect();
     *file = assemble(&parts);
     if rng.once_in(2) {
         let length = file.len() - 65_536;

@@ -27,7 +27,7 @@ pub struct KnownDay {
 }
 
 /// The unit of the known days with this p(0), h 2, these prices and free orders.
-pub fn known_unit(p0: u16, prices: &[u16]) -> Case {
+pub fn known_unit(p0: u16, prices: &[i32]) -> Case {
     let mut case = Case {
         capacity: 4,
         minimum: 2,
@@ -52,14 +52,14 @@ pub fn known_unit(p0: u16, prices: &[u16]) -> Case {
 }
 
 /// Takes over the prices of a day, with free orders.
-fn set_prices(case: &mut Case, prices: &[u16]) {
+fn set_prices(case: &mut Case, prices: &[i32]) {
     case.t = prices.len();
     case.prices[..prices.len()].copy_from_slice(prices);
     case.orders[..prices.len()].fill(FREE);
 }
 
 /// The same case with these orders.
-fn with_orders(mut case: Case, orders: &[u8]) -> Case {
+pub fn with_orders(mut case: Case, orders: &[u8]) -> Case {
     case.orders[..orders.len()].copy_from_slice(orders);
     case
 }
@@ -87,7 +87,7 @@ pub fn known_days() -> Vec<KnownDay> {
 }
 
 /// A row whose best list is asked for and found.
-fn found(name: &'static str, case: Case, list: &[u16], profit: i64) -> KnownDay {
+pub fn found(name: &'static str, case: Case, list: &[u16], profit: i64) -> KnownDay {
     let answer = Answer::Found { list: list.to_vec(), profit };
     KnownDay { name, case, question: Question::BestList, answer }
 }
@@ -108,12 +108,12 @@ pub fn program_example() -> Case {
     known_unit(3, &[5, 5, 5])
 }
 
-/// The pairs of that file and the text.
+/// The pairs of that file, which is one of the old form, and the text.
 pub const EXAMPLE_PAIRS: [(u16, u16); 4] = [(16, 32), (48, 4), (52, 4), (56, 9)];
 pub const EXAMPLE_TEXT: &str = "profit -53\n1 2 5\n2 1 3\n3 0 1\n";
 
 /// Prices of Table III in mills per MWh.
-const SOURCE_PRICES: [u16; 24] = [
+const SOURCE_PRICES: [i32; 24] = [
     26_950, 25_817, 22_209, 21_219, 19_668, 19_800, 24_167, 26_950, 40_700, 44_110, 45_177, 47_025, 47_773,
     46_200, 44_033, 44_550, 46_200, 48_950, 48_840, 45_100, 43_252, 44_000, 44_000, 25_850,
 ];

@@ -1,65 +1,110 @@
-//! The case file (scope, "Case file"): four pairs of offset and length, then the sections unit,
-//! start-up trajectory, shut-down trajectory and hours. Numbers stand least significant byte first.
+//! The case file (scope, "Case file"; request F-2): pairs of offset and length, then the sections unit, start-up
+//! trajectory, shut-down trajectory and hours, and in a file of five pairs the form number after them. Numbers stand
+//! least significant byte first.
 
 use crate::case::Case;
-use crate::refusals::{self, PAIRS_BYTES};
+use crate::refusals::{self, HOUR_BYTES, LEAST_BYTES, OLD_HOUR_BYTES, PAIR_BYTES};
+use std::ops::RangeInclusive;
+
+/// Prices that a file of the old form can hold: 16-bit numbers without a sign.
+pub const OLD_PRICES: RangeInclusive<i32> = 0..=65_535;
+
+/// The form of a file: the old one, or a form number.
+#[derive(Clone, Copy, Debug, PartialEq, Eq)]
+pub enum Form {
+    Old,
+    Numbered(u16),
+}
 
 /// Reads a file: the record, zeroed past its counts, or the number of the refusal.
 pub fn read(file: &[u8]) -> Result<Case, u32> {
-    if file.len() < PAIRS_BYTES {
-        return Err(1);
+    let (form, case) = held(file)?;
+    if let Form::Numbered(number) = form {
+        refusals::form(number)?;
     }
-    let pairs = read_pairs(file);
-    refusals::pairs(&pairs, file.len())?;
-    refusals::section_lengths(pairs.map(|(_, length)| length))?;
-    let sections = pairs.map(|(offset, length)| &file[offset..offset + length]);
-    let case = read_sections(sections);
     refusals::record(&case)?;
     Ok(case)
 }
 
-/// The four pairs of offset and length.
-fn read_pairs(file: &[u8]) -> [(usize, usize); 4] {
-    [0, 4, 8, 12].map(|at| (usize::from(number16(file, at)), usize::from(number16(file, at + 2))))
+/// What a file holds that neither 1 nor 2 refuses. The first offset says how many pairs there are: 16 is the old form
+/// with four, 20 are five.
+pub fn held(file: &[u8]) -> Result<(Form, Case), u32> {
+    if file.len() < LEAST_BYTES {
+        return Err(1);
+    }
+    match number16(file, 0) {
+        16 => held_by_four(file),
+        20 => held_by_five(file),
+        _ => Err(1),
+    }
 }
 
-/// The record in four sections of fitting length.
-fn read_sections(sections: [&[u8]; 4]) -> Case {
-    let [unit, start_up, shut_down, hours] = sections;
-    let mut case = read_unit(unit);
-    case.ud = start_up.len() / 2;
-    for i in 0..case.ud {
-        case.pu[i] = number16(start_up, 2 * i);
+/// The old form: four pairs, and hours of a 16-bit price and an order. Each price keeps its value.
+fn held_by_four(file: &[u8]) -> Result<(Form, Case), u32> {
+    let pairs: [(usize, usize); 4] = read_pairs(file);
+    refusals::pairs(&pairs, file.len())?;
+    refusals::old_lengths(pairs.map(|(_, length)| length))?;
+    let [unit, start_up, shut_down, hours] = pairs.map(|(offset, length)| &file[offset..offset + length]);
+    let mut case = read_unit(unit, start_up, shut_down);
+    case.t = hours.len() / OLD_HOUR_BYTES;
+    for (i, hour) in hours.chunks(OLD_HOUR_BYTES).enumerate() {
+        case.prices[i] = i32::from(number16(hour, 0));
+        case.orders[i] = hour[2];
     }
-    case.dd = shut_down.len() / 2;
-    for i in 0..case.dd {
-        case.pd[i] = number16(shut_down, 2 * i);
-    }
-    case.t = hours.len() / 3;
-    for i in 0..case.t {
-        case.prices[i] = number16(hours, 3 * i);
-        case.orders[i] = hours[3 * i + 2];
-    }
-    case
+    Ok((Form::Old, case))
 }
 
-/// The fields of the unit's section.
-fn read_unit(unit: &[u8]) -> Case {
-    Case {
+/// Five pairs: hours of a signed 32-bit price and an order, and the form number.
+fn held_by_five(file: &[u8]) -> Result<(Form, Case), u32> {
+    if file.len() < 5 * PAIR_BYTES {
+        return Err(1);
+    }
+    let pairs: [(usize, usize); 5] = read_pairs(file);
+    refusals::pairs(&pairs, file.len())?;
+    refusals::lengths(pairs.map(|(_, length)| length))?;
+    let [unit, start_up, shut_down, hours, form] =
+        pairs.map(|(offset, length)| &file[offset..offset + length]);
+    let mut case = read_unit(unit, start_up, shut_down);
+    case.t = hours.len() / HOUR_BYTES;
+    for (i, hour) in hours.chunks(HOUR_BYTES).enumerate() {
+        case.prices[i] = signed32(hour, 0);
+        case.orders[i] = hour[4];
+    }
+    Ok((Form::Numbered(number16(form, 0)), case))
+}
+
+/// So many pairs of offset and length.
+fn read_pairs<const PAIRS: usize>(file: &[u8]) -> [(usize, usize); PAIRS] {
+    let number = |at| usize::from(number16(file, at));
+    std::array::from_fn(|i| (number(PAIR_BYTES * i), number(PAIR_BYTES * i + 2)))
+}
+
+/// The fields of the unit's section, and the trajectories, in sections of fitting length.
+fn read_unit(unit: &[u8], start_up: &[u8], shut_down: &[u8]) -> Case {
+    let mut case = Case {
         capacity: number16(unit, 0),
         minimum: number16(unit, 2),
         ramp_up: number16(unit, 4),
         ramp_down: number16(unit, 6),
         min_up: number16(unit, 8),
         min_down: number16(unit, 10),
-        f: number32(unit, 12),
-        a: number32(unit, 16),
-        b: number32(unit, 20),
-        c: number32(unit, 24),
+        f: signed32(unit, 12),
+        a: signed32(unit, 16),
+        b: signed32(unit, 20),
+        c: signed32(unit, 24),
         p0: number16(unit, 28),
         h: number16(unit, 30),
+        ud: start_up.len() / 2,
+        dd: shut_down.len() / 2,
         ..Case::ZERO
+    };
+    for i in 0..case.ud {
+        case.pu[i] = number16(start_up, 2 * i);
     }
+    for i in 0..case.dd {
+        case.pd[i] = number16(shut_down, 2 * i);
+    }
+    case
 }
 
 /// The 16-bit number that begins at `at`.
@@ -67,35 +112,56 @@ fn number16(bytes: &[u8], at: usize) -> u16 {
     u16::from(bytes[at]) + 256 * u16::from(bytes[at + 1])
 }
 
-/// The 32-bit number that begins at `at`.
-fn number32(bytes: &[u8], at: usize) -> u32 {
-    u32::from(number16(bytes, at)) + 65_536 * u32::from(number16(bytes, at + 2))
+/// The signed 32-bit number that begins at `at`: one of 2^31 or more stands for itself less 2^32.
+fn signed32(bytes: &[u8], at: usize) -> i32 {
+    let number = i64::from(number16(bytes, at)) + 65_536 * i64::from(number16(bytes, at + 2));
+    let signed = if number >= 1 << 31 { number - (1 << 32) } else { number };
+    i32::try_from(signed).expect("a signed number of 32 bits")
 }
 
-/// Writes a record: the file's bytes, or the number of the refusal (2 to 8).
+/// Writes a record in form 2: the file's bytes, or the number of the refusal (2 to 8, 13).
 pub fn write(case: &Case) -> Result<Vec<u8>, u32> {
     refusals::record(case)?;
     Ok(assemble(&sections(case)))
 }
 
-/// The four sections of a record whose counts fit, without any other test.
-pub fn sections(case: &Case) -> [Vec<u8>; 4] {
-    let hours = (0..case.t).flat_map(|i| {
-        let [low, high] = case.prices[i].to_le_bytes();
-        [low, high, case.orders[i]]
-    });
-    [unit_section(case), bytes16(&case.pu[..case.ud]), bytes16(&case.pd[..case.dd]), hours.collect()]
+/// The file of the old form that a case within the limits was read from, if there can be one.
+pub fn old_file(case: &Case) -> Option<Vec<u8>> {
+    let old = case.prices[..case.t].iter().all(|price| OLD_PRICES.contains(price));
+    old.then(|| assemble(&old_sections(case)))
 }
 
-/// The unit's section.
-fn unit_section(case: &Case) -> Vec<u8> {
-    let limits = [case.capacity, case.minimum, case.ramp_up, case.ramp_down, case.min_up, case.min_down];
-    let mut section = bytes16(&limits);
-    for cost in [case.f, case.a, case.b, case.c] {
-        section.extend(cost.to_le_bytes());
+/// The five sections of form 2 of a record whose counts fit, without any other test.
+pub fn sections(case: &Case) -> [Vec<u8>; 5] {
+    let [unit, start_up, shut_down] = unit_sections(case);
+    let mut hours = Vec::new();
+    for i in 0..case.t {
+        hours.extend(case.prices[i].to_le_bytes());
+        hours.push(case.orders[i]);
     }
-    section.extend(bytes16(&[case.p0, case.h]));
-    section
+    [unit, start_up, shut_down, hours, refusals::FORM.to_le_bytes().to_vec()]
+}
+
+/// The four sections of the old form; prices are cut to 16 bits.
+pub fn old_sections(case: &Case) -> [Vec<u8>; 4] {
+    let [unit, start_up, shut_down] = unit_sections(case);
+    let mut hours = Vec::new();
+    for i in 0..case.t {
+        hours.extend((case.prices[i] as u16).to_le_bytes());
+        hours.push(case.orders[i]);
+    }
+    [unit, start_up, shut_down, hours]
+}
+
+/// The sections that every form has: the unit's and the trajectories.
+fn unit_sections(case: &Case) -> [Vec<u8>; 3] {
+    let limits = [case.capacity, case.minimum, case.ramp_up, case.ramp_down, case.min_up, case.min_down];
+    let mut unit = bytes16(&limits);
+    for cost in [case.f, case.a, case.b, case.c] {
+        unit.extend(cost.to_le_bytes());
+    }
+    unit.extend(bytes16(&[case.p0, case.h]));
+    [unit, bytes16(&case.pu[..case.ud]), bytes16(&case.pd[..case.dd])]
 }
 
 /// The bytes of 16-bit numbers.
@@ -103,16 +169,22 @@ fn bytes16(numbers: &[u16]) -> Vec<u8> {
     numbers.iter().flat_map(|number| number.to_le_bytes()).collect()
 }
 
-/// A file of four sections with the pairs that belong to them. Sections of any length are taken,
-/// so that files to be refused can be made too; offsets and lengths are cut to 16 bits.
-pub fn assemble(sections: &[Vec<u8>; 4]) -> Vec<u8> {
+/// A file of sections with the pairs that belong to them. Any number of sections of any length is taken, so that files
+/// to be refused can be made too; offsets and lengths are cut to 16 bits.
+pub fn assemble(sections: &[Vec<u8>]) -> Vec<u8> {
+    assemble_with_gap(sections, &[])
+}
+
+/// The same with bytes between the pairs and the first section.
+pub fn assemble_with_gap(sections: &[Vec<u8>], gap: &[u8]) -> Vec<u8> {
     let mut file = Vec::new();
-    let mut offset = PAIRS_BYTES;
+    let mut offset = PAIR_BYTES * sections.len() + gap.len();
     for section in sections {
         file.extend((offset as u16).to_le_bytes());
         file.extend((section.len() as u16).to_le_bytes());
         offset += section.len();
     }
+    file.extend(gap);
     for section in sections {
         file.extend(section);
     }

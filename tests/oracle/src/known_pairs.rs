@@ -1,4 +1,4 @@
-//! Pairs of lists on the unit of the known days, with the answer that the request gives, worked out by hand. An on-line
+//! Pairs of lists on the unit of the known days, with the answer that request F-1 gives, worked out by hand. An on-line
 //! hour costs 2 A = 2, a start 2 B = 6 and a stop 2 C = 4 half-mills; the margin of an hour is its price less F = 10.
 
 use crate::case::{Case, FREE};
@@ -18,17 +18,17 @@ pub struct KnownPair {
 /// The tie that trying every list of the known unit from 2 MW at prices 14, 9, 9 has found: no list earns more than 5,
 /// and these two alone earn 5. Margins 4, -1, -1. The first shuts down: 4 (1 + 2) - 2 = 10, then -1 (0 + 1) - 4 = -5,
 /// then 0. The second stays on-line: 4 (3 + 2) - 2 = 18, then -1 (2 + 3) - 2 = -7, then -1 (2 + 2) - 2 = -6.
-pub const TIED_PRICES: [u16; 3] = [14, 9, 9];
+pub const TIED_PRICES: [i32; 3] = [14, 9, 9];
 pub const TIED_LISTS: [[u16; 3]; 2] = [[1, 0, 0], [3, 2, 2]];
 pub const TIED_PROFIT: i64 = 5;
 
 /// How many pairs there are.
-pub const COUNT: u64 = 73;
+pub const COUNT: u64 = 97;
 
 /// All pairs, by the sentences of the request.
 pub fn known_pairs() -> Vec<KnownPair> {
-    [one_passes(), higher_profit(), equal_profit(), identical(), neither(), lengths(), refused_cases()]
-        .concat()
+    let tested = [one_passes(), higher_profit(), equal_profit(), identical(), neither(), lengths()].concat();
+    [tested, refused_cases(), prices_below_zero()].concat()
 }
 
 /// A list that passes beats one that doesn't, whatever that one would earn. One hour from 2 MW: 2 and 3 pass, since RU
@@ -143,23 +143,49 @@ fn lengths() -> Vec<KnownPair> {
     ]
 }
 
-/// The refusals of the case come before 9, those of the refusal list's examples.
+/// The refusals of the case come before 9, those of the refusal list's examples and of request F-2.
 fn refused_cases() -> Vec<KnownPair> {
     let unit = known_unit(2, &[10; 2]);
     let mut ordered = unit;
     ordered.orders[..2].copy_from_slice(&[FREE, 3]);
+    let above = known_unit(2, &[10, 10_000_001]);
     let cases = [
         ("no hours", Case { t: 0, ..unit }, 2),
         ("minimum 5, capacity 4", Case { minimum: 5, ..unit }, 3),
         ("RU 0", Case { ramp_up: 0, ..unit }, 4),
         ("F 1,000,001", Case { f: 1_000_001, ..unit }, 5),
+        ("F -1", Case { f: -1, ..unit }, 5),
         ("PU 2, 2", Case { pu: [2, 2, 0, 0, 0, 0, 0, 0], ..unit }, 6),
         ("p(0) 1, minimum 2", Case { p0: 1, ..unit }, 7),
         ("order 3", ordered, 8),
+        ("order 3, price 10,000,001", Case { orders: ordered.orders, ..above }, 8),
+        ("price 10,000,001", above, 13),
+        ("price -10,000,001", known_unit(2, &[-10_000_001, 10]), 13),
     ];
     let lists: [(&[u16], &[u16]); 4] = [(&[2, 2], &[2, 2]), (&[2], &[2, 2]), (&[2, 2], &[2]), (&[], &[])];
     let rows = |(name, case, number)| lists.map(|(one, other)| unchosen(name, case, one, other, number));
     cases.into_iter().flat_map(rows).collect()
+}
+
+/// Prices below zero and above 65,535 mills (request F-2). At price -5 the margin is -15. From 3 MW, 2 earns
+/// -15 (2 + 3) - 2 = -77, and 4 earns -15 (4 + 3) - 2 = -107. From 0 MW, 0 earns 0, and 1 earns
+/// -15 (1 + 0) - 2 - 6 = -23. At price 10,000,000 the margin is 9,999,990: from 2 MW, 3 earns
+/// 9,999,990 (3 + 2) - 2 = 49,999,948, and 2 earns 9,999,990 (2 + 2) - 2 = 39,999,958. At prices -5 and 25, margins -15
+/// and 15, from 2 MW: 2, 2 earns -15 (2 + 2) - 2 = -62, then 15 (2 + 2) - 2 = 58, that is -4; 3, 2 earns
+/// -15 (3 + 2) - 2 = -77, then 15 (2 + 3) - 2 = 73, that is -4 too.
+fn prices_below_zero() -> Vec<KnownPair> {
+    let (low, off, spike) = (known_unit(3, &[-5]), known_unit(0, &[-5]), known_unit(2, &[10_000_000]));
+    let even = known_unit(2, &[-5, 25]);
+    vec![
+        first("the first loses less below zero", low, &[2], &[4], -77),
+        second("the second loses less below zero", low, &[4], &[2], -77),
+        first("the first stays off-line below zero", off, &[0], &[1], 0),
+        second("the second stays off-line below zero", off, &[1], &[0], 0),
+        first("the first earns more at the highest price", spike, &[3], &[2], 49_999_948),
+        second("the second earns more at the highest price", spike, &[2], &[3], 49_999_948),
+        first("equal profit below and above zero, the first is lower", even, &[2, 2], &[3, 2], -4),
+        second("equal profit below and above zero, the second is lower", even, &[3, 2], &[2, 2], -4),
+    ]
 }
 
 /// A row whose first list is the better one.

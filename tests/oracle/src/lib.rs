@@ -1,7 +1,7 @@
 //! The independent scheduler: the day scheduler for one thermal unit, written a second time
 //! from the papers alone. "The scope" in the comments is the paper "The day scheduler for one
 //! thermal unit"; "the source" is the Arroyo and Conejo paper, whose constraints carry numbers;
-//! "the request" is the one for two suppliers' lists side by side.
+//! request F-1 is the one for two suppliers' lists side by side, F-2 the one for prices below zero.
 
 // What the papers say.
 pub mod answers;
@@ -11,7 +11,9 @@ pub mod case;
 pub mod days;
 pub mod dp;
 pub mod file;
+pub mod known_files;
 pub mod known_pairs;
+pub mod known_prices;
 pub mod pair;
 pub mod profit;
 pub mod refusals;

@@ -1,5 +1,5 @@
-//! Two lists side by side (the request of that name): which of the two is to be offered, what it earns, and which
-//! part of the two lists is handed back.
+//! Two lists side by side (request F-1, here the request): which of the two is to be offered, what it earns, and
+//! which part of the two lists is handed back.
 
 use crate::case::Case;
 use crate::profit::profit;
@@ -43,7 +43,7 @@ pub struct Choice {
     pub profit: i64,
 }
 
-/// The tests of a comparison: 2 to 8, then 9 if either list is not of T outputs.
+/// The tests of a comparison: 2 to 8 and 13, then 9 if either list is not of T outputs.
 fn tested(case: &Case, first: &[u16], second: &[u16]) -> refusals::Test {
     refusals::record(case)?;
     refusals::list_length(case, first.len())?;

@@ -5,6 +5,7 @@ use crate::case::Case;
 use crate::dp::{best_list, KeptLists};
 use crate::lists::{any_list, change_length, disturb, walk};
 use crate::random::Rng;
+use crate::refusals::PRICES;
 use crate::units::{full_day, long_day, longer_day, set_no_margin, set_one_price, short_day, small_unit};
 
 /// A case within the limits; in two of five an output earns nothing, in one all hours have one price.
@@ -39,7 +40,8 @@ impl<'a> Pairs<'a> {
         let kept = KeptLists::new(case);
         let best = kept.best().map(|plan| plan.list);
         let mut changed = *case;
-        changed.prices[..case.t].iter_mut().for_each(|price| *price = rng.bits() as u16);
+        let mut any_price = || rng.between32(*PRICES.start(), *PRICES.end());
+        changed.prices[..case.t].iter_mut().for_each(|price| *price = any_price());
         let elsewhere = best_list(&changed).map(|plan| plan.list);
         Pairs { case, kept, best, elsewhere }
     }
@@ -109,7 +111,7 @@ impl<'a> Pairs<'a> {
     /// The list with an output beyond the capacity at an hour that sells above F, if there is one.
     fn earning_more(&self, rng: &mut Rng, list: &[u16]) -> Vec<u16> {
         let mut list = list.to_vec();
-        let sells = |&k: &usize| u32::from(self.case.prices[k]) > self.case.f;
+        let sells = |&k: &usize| self.case.prices[k] > self.case.f;
         let hours: Vec<usize> = (0..list.len()).filter(sells).collect();
         if !hours.is_empty() {
             list[rng.pick(&hours)] = rng.pick(&[self.case.capacity + 1, 2 * self.case.capacity, 65_535]);

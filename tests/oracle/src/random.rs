@@ -41,9 +41,10 @@ impl Rng {
         self.between(low.into(), high.into()) as u16
     }
 
-    /// A 32-bit number from `low` to `high`, both included.
-    pub fn between32(&mut self, low: u32, high: u32) -> u32 {
-        self.between(low.into(), high.into()) as u32
+    /// A signed 32-bit number from `low` to `high`, both included.
+    pub fn between32(&mut self, low: i32, high: i32) -> i32 {
+        let count = i64::from(high) - i64::from(low) + 1;
+        (i64::from(low) + self.below(count as u64) as i64) as i32
     }
 
     /// A count or place from `low` to `high`, both included.

@@ -1,7 +1,8 @@
-//! The refusal list (scope, "Refusal list"), numbers 1 to 10. Number 11 is the answer of a
-//! search that found nothing, and stands in `answers`.
+//! The refusal list (scope, "Refusal list"), numbers 1 to 10, with 12 and 13 of request F-2. The order of the tests
+//! is 1, 2, 12, 3 to 8, 13, 9, 10. Number 11 is the answer of a search that found nothing, and stands in `answers`.
 
 use crate::case::{Case, MOST_HOURS, MOST_STAGES, OFF_LINE};
+use std::ops::RangeInclusive;
 
 /// Nothing, or the number of the refusal that applies.
 pub type Test = Result<(), u32>;
@@ -9,9 +10,24 @@ pub type Test = Result<(), u32>;
 /// Working numbers that a search may ask for.
 pub const WORKING_NUMBERS: usize = 8192;
 
-/// Bytes of the four pairs at the head of a file, and of the unit's section.
-pub const PAIRS_BYTES: usize = 16;
+/// Bytes of a pair at the head of a file, of the unit's section and of the form's.
+pub const PAIR_BYTES: usize = 4;
 pub const UNIT_BYTES: usize = 32;
+pub const FORM_BYTES: usize = 2;
+
+/// Fewest bytes of a file: those of four pairs.
+pub const LEAST_BYTES: usize = 4 * PAIR_BYTES;
+
+/// Bytes of an hour's entry: a 16-bit price and an order in a file of four pairs, a 32-bit price and an order in one of
+/// five.
+pub const OLD_HOUR_BYTES: usize = 3;
+pub const HOUR_BYTES: usize = 5;
+
+/// The number of the form that is written.
+pub const FORM: u16 = 2;
+
+/// Prices that are not refused, in mills per MWh.
+pub const PRICES: RangeInclusive<i32> = -10_000_000..=10_000_000;
 
 /// Refuses with `number` where `condition` holds.
 fn refuse_if(condition: bool, number: u32) -> Test {
@@ -22,10 +38,10 @@ fn refuse_if(condition: bool, number: u32) -> Test {
     }
 }
 
-/// Refusal 1: the chain of pairs. The first offset is 16, each next one is where the section
-/// before ends, the last section ends with the file. Sums are plain sums of whole numbers.
-pub fn pairs(pairs: &[(usize, usize); 4], file_bytes: usize) -> Test {
-    let mut expected_offset = PAIRS_BYTES;
+/// Refusal 1: the chain of pairs. The first offset is where the pairs end, each next one is where the section before
+/// ends, the last section ends with the file. Sums are plain sums of whole numbers.
+pub fn pairs(pairs: &[(usize, usize)], file_bytes: usize) -> Test {
+    let mut expected_offset = PAIR_BYTES * pairs.len();
     for &(offset, length) in pairs {
         refuse_if(offset != expected_offset, 1)?;
         expected_offset = offset + length;
@@ -33,14 +49,24 @@ pub fn pairs(pairs: &[(usize, usize); 4], file_bytes: usize) -> Test {
     refuse_if(expected_offset != file_bytes, 1)
 }
 
-/// Refusal 2 of a file: 32 bytes of unit, 1 to 8 entries of 2 bytes in each trajectory, 1 to
-/// 48 hours of 3 bytes.
-pub fn section_lengths(lengths: [usize; 4]) -> Test {
-    let [unit, start_up, shut_down, hours] = lengths;
+/// Refusal 2 of a file of four pairs: its hours have 3 bytes.
+pub fn old_lengths([unit, start_up, shut_down, hours]: [usize; 4]) -> Test {
+    unit_lengths([unit, start_up, shut_down])?;
+    refuse_if(!is_entries(hours, OLD_HOUR_BYTES, MOST_HOURS), 2)
+}
+
+/// Refusal 2 of a file of five pairs, whatever its form number is: its hours have 5 bytes, its form section 2.
+pub fn lengths([unit, start_up, shut_down, hours, form]: [usize; 5]) -> Test {
+    unit_lengths([unit, start_up, shut_down])?;
+    refuse_if(!is_entries(hours, HOUR_BYTES, MOST_HOURS), 2)?;
+    refuse_if(form != FORM_BYTES, 2)
+}
+
+/// Refusal 2 by what every form has: 32 bytes of unit, 1 to 8 entries of 2 bytes in each trajectory.
+fn unit_lengths([unit, start_up, shut_down]: [usize; 3]) -> Test {
     refuse_if(unit != UNIT_BYTES, 2)?;
     refuse_if(!is_entries(start_up, 2, MOST_STAGES), 2)?;
-    refuse_if(!is_entries(shut_down, 2, MOST_STAGES), 2)?;
-    refuse_if(!is_entries(hours, 3, MOST_HOURS), 2)
+    refuse_if(!is_entries(shut_down, 2, MOST_STAGES), 2)
 }
 
 /// Whether `bytes` is the length of 1 to `most` entries of `size` bytes.
@@ -48,7 +74,12 @@ fn is_entries(bytes: usize, size: usize, most: usize) -> bool {
     bytes.is_multiple_of(size) && (1..=most).contains(&(bytes / size))
 }
 
-/// Refusals 2 to 8 of a record, from the top.
+/// Refusal 12: a form number that is not 2. It is a file's alone.
+pub fn form(number: u16) -> Test {
+    refuse_if(number != FORM, 12)
+}
+
+/// Refusals 2 to 8 of a record, from the top, and 13 right after 8.
 pub fn record(case: &Case) -> Test {
     counts(case)?;
     output_limits(case)?;
@@ -56,7 +87,8 @@ pub fn record(case: &Case) -> Test {
     costs(case)?;
     trajectories(case)?;
     opening(case)?;
-    orders(case)
+    orders(case)?;
+    prices(case)
 }
 
 /// Refusal 2 of a record: a count outside its range.
@@ -82,11 +114,12 @@ fn ramps_and_times(case: &Case) -> Test {
     Ok(())
 }
 
-/// Refusal 5: F above 1,000,000, or A, B or C above 100,000,000.
+/// Refusal 5: F above 1,000,000, or A, B or C above 100,000,000; or any of them below zero, which is a number of 2^31
+/// or more in a file.
 fn costs(case: &Case) -> Test {
-    refuse_if(case.f > 1_000_000, 5)?;
+    refuse_if(!(0..=1_000_000).contains(&case.f), 5)?;
     for cost in [case.a, case.b, case.c] {
-        refuse_if(cost > 100_000_000, 5)?;
+        refuse_if(!(0..=100_000_000).contains(&cost), 5)?;
     }
     Ok(())
 }
@@ -115,6 +148,11 @@ fn opening(case: &Case) -> Test {
 /// Refusal 8: an order byte above 2.
 fn orders(case: &Case) -> Test {
     refuse_if(case.orders[..case.t].iter().any(|&order| order > OFF_LINE), 8)
+}
+
+/// Refusal 13: a price of hours 1 to T outside its range.
+fn prices(case: &Case) -> Test {
+    refuse_if(case.prices[..case.t].iter().any(|price| !PRICES.contains(price)), 13)
 }
 
 /// Refusal 9: a checked list not of T outputs.

@@ -1,12 +1,17 @@
 //! Random cases within the limits: small units for trying every list, longer days for trying every
-//! commitment, long days of small units and full-size days.
+//! commitment, long days of small units and full-size days. In three of four prices may lie below zero and above 65,535
+//! mills (request F-2).
 
 use crate::case::{Case, FREE, MOST_HOURS, OFF_LINE, ON_LINE};
+use crate::file::OLD_PRICES;
 use crate::lists::walk;
 use crate::random::Rng;
+use crate::refusals::PRICES;
 
-/// Largest capacity of a small unit for T from 1 to 9, so that (capacity + 2)^T stays below 20,000.
+/// Largest capacity of a small unit for T from 1 to 9, so that (capacity + 2)^T stays below 20,000; and of a smaller
+/// one for T from 1 to 7, below 2,500.
 const SMALL_CAPACITY: [u16; 9] = [40, 30, 20, 9, 5, 3, 2, 1, 1];
+const SMALLER_CAPACITY: [u16; 7] = [40, 40, 11, 5, 2, 1, 1];
 
 /// How much money stands in a case.
 #[derive(Clone, Copy)]
@@ -17,7 +22,7 @@ enum Money {
     Ties,
     /// Numbers of the size of the known days.
     Small,
-    /// Numbers of the size of the source's day.
+    /// Numbers of the size of the source's day, with a spike or a price below zero in some hours.
     Realistic,
     /// Numbers up to the limits.
     Extreme,
@@ -27,7 +32,18 @@ enum Money {
 pub fn small_unit(rng: &mut Rng) -> Case {
     let most = SMALL_CAPACITY.len();
     let t = if rng.once_in(30) { most } else { rng.place(1, most - 1) };
-    let capacity = rng.between16(1, SMALL_CAPACITY[t - 1]);
+    small_unit_up_to(rng, t, SMALL_CAPACITY[t - 1])
+}
+
+/// One so small that many of them take little time.
+pub fn smaller_unit(rng: &mut Rng) -> Case {
+    let t = rng.place(1, SMALLER_CAPACITY.len());
+    small_unit_up_to(rng, t, SMALLER_CAPACITY[t - 1])
+}
+
+/// A small unit of T hours and up to this capacity.
+fn small_unit_up_to(rng: &mut Rng, t: usize, most: u16) -> Case {
+    let capacity = rng.between16(1, most);
     let minimum = if rng.once_in(5) { capacity } else { rng.between16(1, capacity) };
     let money = rng.pick(&[Money::Even, Money::Ties, Money::Small, Money::Small, Money::Extreme]);
     unit(rng, t, minimum, capacity, money)
@@ -83,6 +99,27 @@ pub fn full_day(rng: &mut Rng) -> Case {
         _ => Money::Realistic,
     };
     unit(rng, t, minimum, capacity, money)
+}
+
+/// 48 hours of a unit of 400 MW with costs and prices at their limits, in some hours next to them or near zero; once in
+/// two times ordered on-line all day.
+pub fn limit_day(rng: &mut Rng) -> Case {
+    let minimum = rng.pick(&[1, 2, 100, 200, 399, 400]);
+    let mut case = unit(rng, MOST_HOURS, minimum, 400, Money::Extreme);
+    let (low, high) = (*PRICES.start(), *PRICES.end());
+    let pattern = rng.below(6);
+    for k in 0..case.t {
+        case.prices[k] = match pattern {
+            0 | 1 => low,
+            2 | 3 => high,
+            4 => rng.pick(&[low, high]),
+            _ => rng.pick(&[low, low, high, high, low + 1, high - 1, -1, 0, 1]),
+        };
+    }
+    if rng.once_in(2) {
+        case.orders[..case.t].fill(ON_LINE);
+    }
+    case
 }
 
 /// A unit with these limits, T hours and so much money.
@@ -175,8 +212,8 @@ fn set_opening(rng: &mut Rng, case: &mut Case) {
 /// F, A, B, C and the prices.
 fn set_money(rng: &mut Rng, case: &mut Case, money: Money) {
     let (f, a, b, c) = match money {
-        Money::Even => (rng.pick(&[1, 5, 10]), 0, 0, rng.pick(&[0, 0, 0, 1])),
-        Money::Ties => (rng.pick(&[0, 1, 5, 10]), small_cost(rng), small_cost(rng), small_cost(rng)),
+        Money::Even => (rng.pick(&[0, 0, 1, 5, 10]), 0, 0, rng.pick(&[0, 0, 0, 1])),
+        Money::Ties => (rng.pick(&[0, 0, 1, 5, 10]), small_cost(rng), small_cost(rng), small_cost(rng)),
         Money::Small => {
             (rng.between32(5, 40), rng.between32(0, 8), rng.between32(0, 40), rng.between32(0, 40))
         }
@@ -194,17 +231,40 @@ fn set_money(rng: &mut Rng, case: &mut Case, money: Money) {
     for k in 0..case.t {
         case.prices[k] = if flat { first } else { price(rng, f, money) };
     }
+    if rng.once_in(4) {
+        set_old_prices(case);
+    }
+}
+
+/// Brings every price to the nearest one that a file of the old form can hold.
+pub fn set_old_prices(case: &mut Case) {
+    for price in &mut case.prices[..case.t] {
+        *price = (*price).clamp(*OLD_PRICES.start(), *OLD_PRICES.end());
+    }
+}
+
+/// Brings the price of an hour below zero, and those of some other hours or of all.
+pub fn set_below_zero(rng: &mut Rng, case: &mut Case) {
+    let (first, share) = (rng.place(0, case.t - 1), rng.between(1, 4));
+    for (k, price) in case.prices[..case.t].iter_mut().enumerate() {
+        if k == first || rng.once_in(share) {
+            *price = match rng.below(3) {
+                0 => -1,
+                1 => -price.abs().max(1),
+                _ => (*price - 2 * case.f).clamp(*PRICES.start(), -1),
+            };
+        }
+    }
 }
 
 /// Makes lists earn the same: every price is F and an on-line hour is free, so that only starts and stops cost, if
 /// they do.
 pub fn set_no_margin(rng: &mut Rng, case: &mut Case) {
-    case.f = case.f.min(u16::MAX.into());
     case.a = 0;
     if rng.once_in(2) {
         (case.b, case.c) = (0, 0);
     }
-    case.prices[..case.t].fill(case.f as u16);
+    case.prices[..case.t].fill(case.f);
 }
 
 /// Gives every hour one price, so that outputs can change places and earn the same.
@@ -214,12 +274,12 @@ pub fn set_one_price(case: &mut Case) {
 }
 
 /// A cost that is mostly 0.
-fn small_cost(rng: &mut Rng) -> u32 {
+fn small_cost(rng: &mut Rng) -> i32 {
     rng.pick(&[0, 0, 0, 1, 2, 3])
 }
 
 /// 0, the limit, the number below it, or anything up to it.
-fn extreme(rng: &mut Rng, limit: u32) -> u32 {
+fn extreme(rng: &mut Rng, limit: i32) -> i32 {
     match rng.below(4) {
         0 => 0,
         1 => limit,
@@ -229,18 +289,34 @@ fn extreme(rng: &mut Rng, limit: u32) -> u32 {
 }
 
 /// A cost up to 100,000,000.
-fn extreme_cost(rng: &mut Rng) -> u32 {
+fn extreme_cost(rng: &mut Rng) -> i32 {
     extreme(rng, 100_000_000)
 }
 
+/// A limit of the prices, a number next to one, or anything within.
+fn extreme_price(rng: &mut Rng) -> i32 {
+    let (low, high) = (*PRICES.start(), *PRICES.end());
+    match rng.below(4) {
+        0 => rng.pick(&[low, low + 1, -65_536, -32_768, -1]),
+        1 => rng.pick(&[0, 1, 32_767, 32_768, 65_535]),
+        2 => rng.pick(&[65_536, high - 1, high]),
+        _ => rng.between32(low, high),
+    }
+}
+
 /// A price that suits F.
-fn price(rng: &mut Rng, f: u32, money: Money) -> u16 {
+fn price(rng: &mut Rng, f: i32, money: Money) -> i32 {
     match money {
-        Money::Even => (f as u16 + rng.pick(&[0, 0, 0, 0, 0, 0, 1])) - rng.pick(&[0, 0, 0, 0, 0, 0, 1]),
-        Money::Ties => (f + rng.pick(&[0, 0, 0, 1, 2, 3])).saturating_sub(rng.pick(&[0, 0, 1, 2])) as u16,
-        Money::Small => rng.between32(0, 2 * f) as u16,
-        Money::Realistic => rng.between32(f / 2, (f + f / 2).min(65_535)) as u16,
-        Money::Extreme => extreme(rng, 65_535) as u16,
+        Money::Even => f + rng.pick(&[0, 0, 0, 0, 0, 0, 1]) - rng.pick(&[0, 0, 0, 0, 0, 0, 1]),
+        Money::Ties => f + rng.pick(&[0, 0, 0, 1, 2, 3]) - rng.pick(&[0, 0, 1, 2]),
+        Money::Small if rng.once_in(3) => rng.between32(-f, 0),
+        Money::Small => rng.between32(0, 2 * f),
+        Money::Realistic => match rng.below(10) {
+            0 => rng.between32(-2 * f, 0),
+            1 => rng.between32(65_536, 20 * f),
+            _ => rng.between32(f / 2, f + f / 2),
+        },
+        Money::Extreme => extreme_price(rng),
     }
 }
 

@@ -3,6 +3,7 @@
 
 use crate::case::{Case, MOST_HOURS, MOST_STAGES};
 use crate::random::Rng;
+use crate::refusals::PRICES;
 use crate::units::{full_day, small_unit};
 
 /// A case within the limits that is then changed in some way.
@@ -36,10 +37,10 @@ fn any_record(rng: &mut Rng) -> Case {
         ramp_down: rng.bits() as u16,
         min_up: rng.bits() as u16,
         min_down: rng.bits() as u16,
-        f: rng.bits() as u32,
-        a: rng.bits() as u32,
-        b: rng.bits() as u32,
-        c: rng.bits() as u32,
+        f: rng.bits() as i32,
+        a: rng.bits() as i32,
+        b: rng.bits() as i32,
+        c: rng.bits() as i32,
         p0: rng.bits() as u16,
         h: rng.bits() as u16,
         ..Case::ZERO
@@ -62,7 +63,7 @@ pub fn fill_past_counts(rng: &mut Rng, case: &mut Case) {
 fn fill_from(rng: &mut Rng, case: &mut Case, pu: usize, pd: usize, hours: usize) {
     case.pu.iter_mut().skip(pu).for_each(|entry| *entry = rng.bits() as u16);
     case.pd.iter_mut().skip(pd).for_each(|entry| *entry = rng.bits() as u16);
-    case.prices.iter_mut().skip(hours).for_each(|entry| *entry = rng.bits() as u16);
+    case.prices.iter_mut().skip(hours).for_each(|entry| *entry = rng.bits() as i32);
     case.orders.iter_mut().skip(hours).for_each(|entry| *entry = rng.bits() as u8);
 }
 
@@ -82,7 +83,7 @@ fn change_count(rng: &mut Rng, case: &mut Case) {
 
 /// Sets one field to a limit of its own or to a number next to it. Counts must fit.
 pub fn set_near_limit(rng: &mut Rng, case: &mut Case) {
-    match rng.below(18) {
+    match rng.below(22) {
         0 => {
             case.capacity =
                 rng.pick(&[0, case.minimum, case.minimum.saturating_sub(1), 399, 400, 401, 65_535])
@@ -100,6 +101,11 @@ pub fn set_near_limit(rng: &mut Rng, case: &mut Case) {
         12 => case.h = near_limits(rng, 1, 10_000),
         13 => case.h = near_limits(rng, case.ud as u16, 10_000),
         14 | 15 => case.p0 = near_limits(rng, case.minimum, case.capacity),
+        16..=19 => {
+            let any = rng.place(0, case.t - 1);
+            let k = rng.pick(&[0, any, case.t - 1]);
+            case.prices[k] = near_price_limit(rng);
+        }
         _ => {
             let k = rng.place(0, case.t - 1);
             case.orders[k] = rng.pick(&[0, 1, 2, 3, 4, 128, 255]);
@@ -118,9 +124,20 @@ fn near_limits(rng: &mut Rng, low: u16, high: u16) -> u16 {
     }
 }
 
-/// A number at, below or above a limit, or far off.
-fn near_limit32(rng: &mut Rng, limit: u32) -> u32 {
-    rng.pick(&[0, limit - 1, limit, limit + 1, limit + 65_536, 1 << 31, u32::MAX])
+/// A cost at, below or above a limit, below zero or far off.
+fn near_limit32(rng: &mut Rng, limit: i32) -> i32 {
+    rng.pick(&[0, limit - 1, limit, limit + 1, limit + 65_536, -1, i32::MIN, i32::MAX])
+}
+
+/// A price at or next to a limit, or far off.
+fn near_price_limit(rng: &mut Rng) -> i32 {
+    let (low, high) = (*PRICES.start(), *PRICES.end());
+    let far = [i32::MIN, i32::MAX, low - 65_536, high + 65_536, -1, 65_536];
+    if rng.once_in(3) {
+        rng.pick(&far)
+    } else {
+        rng.pick(&[low - 1, low, low + 1, high - 1, high, high + 1])
+    }
 }
 
 /// Moves one entry of a trajectory onto or next to its neighbour, to 0 or by one.

@@ -1,20 +1,19 @@
 //! Holds the independent scheduler against the papers and against itself. Needs no library.
 
+mod files;
 mod pairs;
 
 use oracle::answers;
-use oracle::best::{by_commitment, every_list};
+use oracle::best::{by_commitment, every_list, Plan};
 use oracle::case::Case;
-use oracle::damage::damaged_file;
 use oracle::days::{self, Answer, KnownDay, Question};
 use oracle::dp::best_list;
-use oracle::file;
+use oracle::known_prices;
 use oracle::lists::any_list;
 use oracle::random::Rng;
 use oracle::refusals::WORKING_NUMBERS;
 use oracle::rules::RULES;
-use oracle::units::{full_day, long_day, longer_day, small_unit};
-use oracle::wild::fill_past_counts;
+use oracle::units::{full_day, limit_day, long_day, longer_day, small_unit};
 use std::fmt::Debug;
 use std::process::ExitCode;
 
@@ -22,8 +21,6 @@ use std::process::ExitCode;
 const SEED: u64 = 0x5e1f_7e57;
 
 /// Numbers of random cases.
-const ROUND_TRIPS: u64 = 10_000;
-const DAMAGED_FILES: u64 = 20_000;
 const PRUNED: u64 = 3_000;
 const SMALL_UNITS: u64 = 4_000;
 const LONGER_DAYS: u64 = 1_200;
@@ -50,14 +47,11 @@ impl Tally {
 }
 
 /// The numbers of a known day's verdict or schedule.
-fn answer_known_day(day: &KnownDay) -> String {
+fn answer_known_day(day: &KnownDay, search: fn(&Case) -> Option<Plan>) -> String {
     let case = &day.case;
     match &day.question {
         Question::Check(list) => format!("{:?}", answers::verdict(case, list)),
-        Question::BestList => {
-            let search = |case: &Case| every_list(case);
-            format!("{:?}", answers::schedule(case, WORKING_NUMBERS, case.t, search))
-        }
+        Question::BestList => format!("{:?}", answers::schedule(case, WORKING_NUMBERS, case.t, search)),
     }
 }
 
@@ -81,33 +75,34 @@ fn expect_known_day(day: &KnownDay) -> String {
 /// the found list through the check.
 fn known_days(tally: &mut Tally) {
     for day in days::known_days() {
-        tally.same(day.name, answer_known_day(&day), expect_known_day(&day));
+        tally.same(day.name, answer_known_day(&day, every_list), expect_known_day(&day));
         if let Question::BestList = day.question {
-            let plan = every_list(&day.case);
-            tally.same(day.name, by_commitment(&day.case), plan.clone());
-            tally.same(day.name, best_list(&day.case), plan);
+            tally.same(day.name, answer_known_day(&day, by_commitment), expect_known_day(&day));
         }
-        if let Answer::Found { list, profit } = &day.answer {
-            let verdict = answers::Verdict { number: 0, hour: 0, rule: 0, profit: *profit };
-            tally.same(day.name, answers::verdict(&day.case, list), verdict);
-        }
+        by_dp_and_check(tally, &day);
     }
 }
 
-/// The file of the program's example, its pairs and its text; and the program's refusals.
-fn program_example(tally: &mut Tally) {
-    let case = days::program_example();
-    let file = file::write(&case).expect("the example is within the limits");
-    let numbers: Vec<u16> = file[..16].chunks(2).map(|two| u16::from_le_bytes([two[0], two[1]])).collect();
-    let pairs: Vec<(u16, u16)> = numbers.chunks(2).map(|two| (two[0], two[1])).collect();
-    tally.same("pairs", pairs, days::EXAMPLE_PAIRS.to_vec());
-    tally.same("length", file.len(), 65);
-    tally.same("reading", file::read(&file), Ok(case));
-    for search in [every_list, by_commitment, best_list] {
-        tally.same("text", answers::program_text(&file, search), days::EXAMPLE_TEXT.to_string());
+/// The known days at prices below zero and above 65,535 mills, those of few hours by trying every list too.
+fn known_prices(tally: &mut Tally) {
+    let days = known_prices::known_prices();
+    tally.same("count", days.len() as u64, known_prices::COUNT);
+    for day in days {
+        if day.case.t <= 4 {
+            tally.same(day.name, answer_known_day(&day, every_list), expect_known_day(&day));
+            tally.same(day.name, answer_known_day(&day, by_commitment), expect_known_day(&day));
+        }
+        by_dp_and_check(tally, &day);
     }
-    tally.same("empty", answers::program_text(&[], best_list), "refused 1\n".to_string());
-    tally.same("long", answers::program_text(&[0; 4097], best_list), "refused 1\n".to_string());
+}
+
+/// A known day by `dp`, and a list that is found through the check.
+fn by_dp_and_check(tally: &mut Tally, day: &KnownDay) {
+    tally.same(day.name, answer_known_day(day, best_list), expect_known_day(day));
+    if let Answer::Found { list, profit } = &day.answer {
+        let verdict = answers::Verdict { number: 0, hour: 0, rule: 0, profit: *profit };
+        tally.same(day.name, answers::verdict(&day.case, list), verdict);
+    }
 }
 
 /// The source's day: the printed list, the optimum, and the optimum of two days in tenths of a
@@ -123,54 +118,6 @@ fn source_day(tally: &mut Tally) {
     tally.same("two days", (two_days.profit + 100) / 200, days::TWO_DAYS_TENTHS);
 }
 
-/// The examples of the refusal list.
-fn refusal_examples(tally: &mut Tally) {
-    let unit = days::known_unit(0, &[10]);
-    let mut sections = file::sections(&unit);
-    sections[3].push(0);
-    tally.same("1", file::read(&[]), Err(1));
-    tally.same("2", file::read(&file::assemble(&sections)), Err(2));
-    tally.same("3", file::write(&Case { minimum: 5, ..unit }), Err(3));
-    tally.same("4", file::write(&Case { ramp_up: 0, ..unit }), Err(4));
-    tally.same("5", file::write(&Case { f: 1_000_001, ..unit }), Err(5));
-    tally.same("6", file::write(&Case { pu: [2, 2, 0, 0, 0, 0, 0, 0], ..unit }), Err(6));
-    tally.same("7", file::write(&Case { p0: 1, ..unit }), Err(7));
-    tally.same("8", file::write(&Case { orders: [3; 48], ..unit }), Err(8));
-    tally.same("9", answers::verdict(&days::known_unit(0, &[10; 2]), &[0]).number, 9);
-    tally.same("10", answers::schedule(&unit, 8191, 1, best_list).number, 10);
-    tally.same("10", answers::schedule(&unit, 8192, 0, best_list).number, 10);
-    tally.same("10", answers::writing(&unit, 58).number, 10);
-    tally.same("0", answers::writing(&unit, 59).number, 0);
-}
-
-/// Reading the written bytes returns the record zeroed past its counts.
-fn round_trips(tally: &mut Tally) {
-    for index in 0..ROUND_TRIPS {
-        let mut rng = Rng::for_index(SEED, index);
-        let mut case = if index % 2 == 0 { small_unit(&mut rng) } else { full_day(&mut rng) };
-        fill_past_counts(&mut rng, &mut case);
-        let file = file::write(&case).expect("the case is within the limits");
-        tally.same("read back", file::read(&file), Ok(case.zeroed_past_counts()));
-        tally.same("write again", file::write(&case.zeroed_past_counts()), Ok(file));
-    }
-}
-
-/// Writing a read file returns its bytes; a refused file gets a number from 1 to 8.
-fn damaged_files(tally: &mut Tally) -> String {
-    let mut counts = [0; 9];
-    for index in 0..DAMAGED_FILES {
-        let file = damaged_file(&mut Rng::for_index(SEED, index));
-        let read = file::read(&file);
-        let number = read.err().unwrap_or(0);
-        counts[number as usize] += 1;
-        match read {
-            Ok(case) => tally.same("bytes", file::write(&case), Ok(file)),
-            Err(number) => tally.same("number", (1..=8).contains(&number), true),
-        }
-    }
-    format!("; numbers 0 to 8: {counts:?}")
-}
-
 /// The search by commitment against the one that tries every list.
 fn pruned_searches(tally: &mut Tally) {
     for index in 0..PRUNED {
@@ -181,14 +128,15 @@ fn pruned_searches(tally: &mut Tally) {
 
 /// `dp` against the search that tries every list.
 fn small_units(tally: &mut Tally) -> String {
-    let mut without_list = 0;
+    let (mut without_list, mut below_zero) = (0, 0);
     for index in 0..SMALL_UNITS {
         let case = small_unit(&mut Rng::for_index(SEED + 2, index));
         let plan = every_list(&case);
         without_list += u64::from(plan.is_none());
+        below_zero += u64::from(case.prices[..case.t].iter().any(|&price| price < 0));
         tally.same("dp", best_list(&case), plan);
     }
-    format!("; {without_list} without a list")
+    format!("; {without_list} without a list, {below_zero} with a price below zero")
 }
 
 /// `dp` against the search by commitment on longer days.
@@ -208,7 +156,11 @@ fn full_days(tally: &mut Tally) -> String {
     let mut without_list = 0;
     for index in 0..FULL_DAYS {
         let mut rng = Rng::for_index(SEED + 4, index);
-        let case = if index < FULL_DAYS / 2 { full_day(&mut rng) } else { long_day(&mut rng) };
+        let case = match index % 8 {
+            0 => limit_day(&mut rng),
+            1..=3 => full_day(&mut rng),
+            _ => long_day(&mut rng),
+        };
         match best_list(&case) {
             None => without_list += 1,
             Some(plan) => {
@@ -266,11 +218,13 @@ fn main() -> ExitCode {
     let mut total = Tally::default();
     println!("seed {SEED:#x}");
     group("known days", &mut total, plain(known_days));
-    group("program's example", &mut total, plain(program_example));
+    group("known prices", &mut total, plain(known_prices));
+    group("program's example", &mut total, plain(files::program_example));
     group("source's day", &mut total, plain(source_day));
-    group("refusal examples", &mut total, plain(refusal_examples));
-    group("round trips", &mut total, plain(round_trips));
-    group("damaged files", &mut total, damaged_files);
+    group("refusal examples", &mut total, plain(files::refusal_examples));
+    group("known files", &mut total, files::known);
+    group("round trips", &mut total, files::round_trips);
+    group("damaged files", &mut total, files::damaged);
     group("by commitment against every list", &mut total, plain(pruned_searches));
     group("dp against every list", &mut total, small_units);
     group("dp against by commitment", &mut total, longer_days);
