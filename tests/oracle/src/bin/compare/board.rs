@@ -3,7 +3,7 @@
 
 use crate::calls::{Call, Input, Name, Pair};
 use crate::guard::{shared_bytes, Placement};
-use crate::kinds::KINDS;
+use crate::kinds::Counts;
 use oracle::case::Case;
 use std::sync::atomic::{AtomicU64, Ordering};
 
@@ -21,9 +21,9 @@ pub struct Tally {
     /// Verdicts by rule broken first, those broken at hour 0, and refusals by number.
     pub breaches: [u64; 24],
     pub at_hour_0: u64,
-    pub refusals: [u64; 12],
-    /// Pairs of lists by kind.
-    pub pairs: [u64; KINDS.len()],
+    pub refusals: [u64; 14],
+    /// What was met, by kind.
+    pub kinds: Counts,
     /// Nanoseconds spent in the library.
     pub library_time: u64,
 }

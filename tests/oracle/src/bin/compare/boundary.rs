@@ -1,4 +1,4 @@
-//! The library's C boundary: structs by value, slices as pointer and length. The names end in 1, the number of
+//! The library's C boundary: structs by value, slices as pointer and length. The names end in 2, the number of
 //! the record's layout.
 
 use oracle::c::{Choice, Plan, Reading, Verdict, Written};
@@ -6,19 +6,19 @@ use oracle::case::Case;
 
 extern "C" {
     /// Reads a case from the bytes of a file.
-    #[link_name = "giqapsun_read_1"]
+    #[link_name = "giqapsun_read_2"]
     pub fn giqapsun_read(file: *const u8, count: usize) -> Reading;
 
     /// Writes a case as the bytes of a file.
-    #[link_name = "giqapsun_write_1"]
+    #[link_name = "giqapsun_write_2"]
     pub fn giqapsun_write(case: Case, bytes: *mut u8, count: usize) -> Written;
 
     /// Checks a list of outputs.
-    #[link_name = "giqapsun_check_1"]
+    #[link_name = "giqapsun_check_2"]
     pub fn giqapsun_check(case: Case, list: *const u16, count: usize) -> Verdict;
 
     /// Finds the best list of outputs.
-    #[link_name = "giqapsun_best_1"]
+    #[link_name = "giqapsun_best_2"]
     pub fn giqapsun_best(
         case: Case,
         work: *mut i64,
@@ -28,7 +28,7 @@ extern "C" {
     ) -> Plan;
 
     /// Compares two lists of outputs.
-    #[link_name = "giqapsun_better_1"]
+    #[link_name = "giqapsun_better_2"]
     pub fn giqapsun_better(
         case: Case,
         first: *const u16,

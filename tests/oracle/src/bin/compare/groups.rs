@@ -1,21 +1,27 @@
 //! The groups of comparisons. Each index of a group makes its own case from the seed.
 
 use crate::calls::Pair;
+use crate::kinds::records::Asked;
+use crate::kinds::Family;
 use crate::run::Run;
 use oracle::answers::{self, Schedule, Verdict};
 use oracle::best::{by_commitment, every_list, Plan};
 use oracle::case::{Case, MOST_HOURS};
 use oracle::damage::damaged_file;
-use oracle::days::{self, Answer, Question};
+use oracle::days::{self, Answer, KnownDay, Question};
 use oracle::dp::best_list;
 use oracle::file;
+use oracle::known_files::{self, known_files};
 use oracle::known_pairs::{self, known_pairs};
+use oracle::known_prices::{self, known_prices};
 use oracle::lists::{any_list, wild_list};
 use oracle::pair;
 use oracle::pairs::{case_of_pairs, Pairs};
 use oracle::random::Rng;
 use oracle::refusals::WORKING_NUMBERS;
-use oracle::units::{full_day, long_day, longer_day, small_unit};
+use oracle::units::{
+    full_day, limit_day, long_day, longer_day, set_below_zero, set_old_prices, small_unit, smaller_unit,
+};
 use oracle::wild::{fill_past_counts, wild_record};
 
 /// A group: its name, how many indices it has, what one index does, and that in words.
@@ -24,30 +30,48 @@ pub struct Group {
     pub count: u64,
     pub run: fn(&mut Run, u64),
     pub about: &'static str,
-    /// Whether a pair of every kind has to come up.
-    pub every_kind: bool,
+    /// What has to come up of every kind.
+    pub every_kind: Option<Family>,
 }
 
 /// A group of the list below.
 const fn group(name: &'static str, count: u64, run: fn(&mut Run, u64), about: &'static str) -> Group {
-    Group { name, count, run, about, every_kind: false }
+    Group { name, count, run, about, every_kind: None }
+}
+
+impl Group {
+    /// The same group, in which every kind has to come up.
+    const fn of_every(self, family: Family) -> Group {
+        Group { every_kind: Some(family), ..self }
+    }
 }
 
 /// All groups in the order in which they run.
-pub const GROUPS: [Group; 13] = [
+pub const GROUPS: [Group; 17] = [
     group("known-days", 13, known_day, "the known days, all calls, every list checked"),
+    group("known-prices", known_prices::COUNT, known_price, "known days below zero and at the limits"),
     group("source-day", 2, source_day, "the source's day, once and twice over"),
     group("small-units", 20_000, small_units, "small units, every list tried"),
+    group("below-zero", 20_000, below_zero, "prices below zero, every list tried; the largest days")
+        .of_every(Family::Day),
     group("longer-days", 2_500, longer_days, "longer days, every commitment tried"),
     group("long-days", 2_000, long_days, "up to 48 hours, by the dynamic programme"),
     group("full-days", 300, full_days, "up to 400 MW, by the dynamic programme"),
-    group("damaged-files", 20_000, damaged_files, "files with a fault, and those still accepted"),
+    group("known-files", known_files::COUNT, known_file, "the known files of both forms"),
+    group("both-forms", 5_000, both_forms, "a case in the old form and in form 2"),
+    group(
+        "damaged-files",
+        40_000,
+        damaged_files,
+        "files of both forms with a fault, and those still accepted",
+    )
+    .of_every(Family::File),
     group("lists", 20_000, lists, "ten lists of a case, checked"),
     group("lengths", 2_000, lengths, "memory that is short, just enough, longer, none"),
-    group("wild-records", 20_000, wild_records, "records at and past their limits"),
+    group("wild-records", 30_000, wild_records, "records at and past their limits").of_every(Family::Record),
     group("entries-past-counts", 2_000, entries_past_counts, "random numbers past the counts of a record"),
     group("known-pairs", known_pairs::COUNT, known_pair, "the known pairs of lists, apart and in one memory"),
-    Group { every_kind: true, ..group("pairs", 40_000, pairs, "eight pairs of lists of a case or record") },
+    group("pairs", 40_000, pairs, "eight pairs of lists of a case or record").of_every(Family::Pair),
 ];
 
 /// Most lists of a unit that are all put through the check.
@@ -71,6 +95,27 @@ fn known_answer(verdict: &Verdict) -> Answer {
 /// A known day: the row's own answer, then all five calls.
 fn known_day(run: &mut Run, index: u64) {
     let day = &days::known_days()[index as usize];
+    known_answer_of(run, day);
+    let case = &day.case;
+    let mut rng = run.rng();
+    run.whole_case(case, every_list(case), &mut rng);
+    all_lengths(run, case, every_list(case));
+    every_list_checked(run, case, 10_000);
+}
+
+/// A known day below zero or at the limits, in the same way; every list is tried on the small ones.
+fn known_price(run: &mut Run, index: u64) {
+    let day = &known_prices()[index as usize];
+    known_answer_of(run, day);
+    let (case, plan) = (&day.case, best_list(&day.case));
+    let mut rng = run.rng();
+    run.whole_case(case, plan.clone(), &mut rng);
+    all_lengths(run, case, plan);
+    every_list_checked(run, case, 10_000);
+}
+
+/// The answer of a known day.
+fn known_answer_of(run: &mut Run, day: &KnownDay) {
     let case = &day.case;
     match (&day.question, &day.answer) {
         (Question::BestList, Answer::Found { list, profit }) => {
@@ -85,10 +130,6 @@ fn known_day(run: &mut Run, index: u64) {
         }
         (Question::BestList, Answer::Breaks { .. }) => unreachable!("a search breaks no rule"),
     }
-    let mut rng = run.rng();
-    run.whole_case(case, every_list(case), &mut rng);
-    all_lengths(run, case, every_list(case));
-    every_list_checked(run, case, 10_000);
 }
 
 /// The source's day, and its price profile twice.
@@ -103,6 +144,25 @@ fn source_day(run: &mut Run, index: u64) {
     let mut rng = run.rng();
     run.whole_case(&case, plan.clone(), &mut rng);
     all_lengths(run, &case, plan);
+}
+
+/// Mostly a small unit with a price below zero, every list tried; once in a while a long day, or one of the largest
+/// size at the limits.
+fn below_zero(run: &mut Run, index: u64) {
+    let mut rng = run.rng();
+    let (mut case, is_small) = match index % 400 {
+        0 => (limit_day(&mut rng), false),
+        1..=20 => (long_day(&mut rng), false),
+        _ => (smaller_unit(&mut rng), true),
+    };
+    if !index.is_multiple_of(400) {
+        set_below_zero(&mut rng, &mut case);
+    }
+    let plan = best_list(&case);
+    if is_small {
+        run.independent(&case, &plan, &every_list(&case));
+    }
+    run.whole_case(&case, plan, &mut rng);
 }
 
 /// A small unit, every list tried; the smallest with every list put through the check too.
@@ -148,15 +208,33 @@ fn full_days(run: &mut Run, _index: u64) {
     run.whole_case(&case, best_list(&case), &mut rng);
 }
 
+/// A known file: the row's own answer, then reading it and what it holds.
+fn known_file(run: &mut Run, index: u64) {
+    let row = &known_files()[index as usize];
+    run.independent(&days::program_example(), &file::read(&row.bytes), &row.answer);
+    read_and_write(run, &row.bytes);
+}
+
+/// A case at old prices: both its files are read as one record, and it is written again as the second.
+fn both_forms(run: &mut Run, index: u64) {
+    let mut rng = run.rng();
+    let mut case = if index.is_multiple_of(4) { full_day(&mut rng) } else { small_unit(&mut rng) };
+    set_old_prices(&mut case);
+    run.files(&case);
+}
+
 /// A damaged file; one that is still accepted is written again too.
 fn damaged_files(run: &mut Run, _index: u64) {
     let file = damaged_file(&mut run.rng());
     run.tally.refusals[answers::reading(&file).number as usize] += 1;
-    let result = run.memory.read(&file);
-    run.note(result);
-    if let Ok(case) = file::read(&file) {
-        let result = run.memory.write(&case, file.len());
-        run.note(result);
+    read_and_write(run, &file);
+}
+
+/// Reads a file; if it is accepted, its record is written, and read again in both forms.
+fn read_and_write(run: &mut Run, bytes: &[u8]) {
+    run.read(bytes);
+    if let Ok(case) = file::read(bytes) {
+        run.files(&case);
     }
 }
 
@@ -214,19 +292,20 @@ fn wild_records(run: &mut Run, _index: u64) {
     let mut rng = run.rng();
     let case = wild_record(&mut rng);
     let t = if case.t <= 2 * MOST_HOURS { case.t } else { rng.place(0, 2 * MOST_HOURS) };
-    let bytes = rng.pick(&[0, 58, 59, 64, 65, 207, 223, 224, 224, 224]);
+    let bytes = rng.pick(&[0, 19, 66, 67, 76, 77, 185, 186, 325, 326, 326, 326]);
+    let number = answers::writing(&case, bytes).number;
     let result = run.memory.write(&case, bytes);
-    run.note(result);
+    run.note_record(&case, Asked::Write { bytes }, number, result);
     let list = wild_list(&mut rng, &case);
+    let number = answers::verdict(&case, &list).number;
     let result = run.memory.check(&case, &list).map(|_| ());
-    run.note(result);
+    run.note_record(&case, Asked::Check { outputs: list.len() }, number, result);
     run.better(&case, Pair::apart(&list, &list));
-    let working_numbers = rng.pick(&[0, 8_191, 8_192, 8_192, 8_192, 8_192, 8_193]);
+    let numbers = rng.pick(&[0, 8_191, 8_192, 8_192, 8_192, 8_192, 8_193]);
     let outputs = rng.pick(&[t, t, t, t, t + 1, t.saturating_sub(1), 0]);
-    let expected = answers::schedule(&case, working_numbers, outputs, best_list);
-    run.tally.refusals[expected.number as usize] += 1;
-    let result = run.memory.best(&case, working_numbers, outputs, &expected);
-    run.note(result);
+    let expected = answers::schedule(&case, numbers, outputs, best_list);
+    let result = run.memory.best(&case, numbers, outputs, &expected);
+    run.note_record(&case, Asked::Best { numbers, outputs }, expected.number, result);
 }
 
 /// A case with random numbers in the entries past its counts, which must change nothing.
@@ -297,8 +376,7 @@ fn pair_in_one(run: &mut Run, case: &Case, mut list: Vec<u16>, rng: &mut Rng) {
 
 /// Runs one file again: reading, and if it is accepted, all calls, lengths and many lists.
 pub fn one_file(run: &mut Run, bytes: &[u8], list: Option<&[u16]>, second: Option<&[u16]>) {
-    let result = run.memory.read(bytes);
-    run.note(result);
+    run.read(bytes);
     let Ok(case) = file::read(bytes) else {
         return;
     };

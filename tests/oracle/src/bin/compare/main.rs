@@ -17,7 +17,7 @@ mod wishes;
 
 use board::{Board, Tally};
 use groups::{one_file, GROUPS};
-use kinds::missing;
+use kinds::Family;
 use report::{show, show_outside, Source};
 use run::{remark, Run, MOST_SHOWN};
 use std::ops::Range;
@@ -35,8 +35,8 @@ struct Series<'a> {
     seed: u64,
     indices: Range<u64>,
     limit: Duration,
-    /// Whether a pair of every kind has to come up, if the series is not stopped.
-    every_kind: bool,
+    /// What has to come up of every kind, if the series is not stopped.
+    every_kind: Option<Family>,
     compare: &'a dyn Fn(&mut Run, u64),
     source: &'a dyn Fn(u64) -> Source,
 }
@@ -86,10 +86,10 @@ impl Series<'_> {
         }
     }
 
-    /// Prints and counts the kinds of pairs that never came up.
-    fn tell_missing(&self, tally: &mut Tally) {
-        for kind in missing(&tally.pairs) {
-            println!("MISSING {}: no pair of the kind: {kind}", self.name);
+    /// Prints and counts the kinds that never came up.
+    fn tell_missing(&self, family: Family, tally: &mut Tally) {
+        for kind in tally.kinds.missing(family) {
+            println!("MISSING {}: no {} of the kind: {kind}", self.name, family.word());
             tally.failed += 1;
         }
     }
@@ -98,15 +98,15 @@ impl Series<'_> {
     fn run_and_sum_up(&self) -> (u64, u64) {
         let begun = Instant::now();
         let (mut tally, stopped) = self.run();
-        if self.every_kind && stopped.is_none() {
-            self.tell_missing(&mut tally);
+        if let (Some(family), None) = (self.every_kind, stopped) {
+            self.tell_missing(family, &mut tally);
         }
         let (all, library) = (begun.elapsed().as_secs_f64(), tally.library_time as f64 / 1e9);
         let (name, seed, passed, failed) = (self.name, self.seed, tally.passed, tally.failed);
         let shown = if failed > 0 { format!(" ({} shown)", tally.shown) } else { String::new() };
         let stop = stopped.map_or(String::new(), |index| format!("stopped before index {index}, "));
         print!("{name}: seed {seed:#x}, {passed} passed, {failed} failed{shown}, {stop}");
-        println!("{all:.1} s of which the library {library:.1} s{}", remark(&tally));
+        println!("{all:.1} s of which the library {library:.1} s{}", remark(&tally, self.every_kind));
         (passed, failed)
     }
 }
@@ -120,7 +120,7 @@ fn run_case(wishes: &Wishes, path: &std::path::Path, bytes: &[u8]) -> (u64, u64)
         seed: wishes.seed,
         indices: 0..1,
         limit: wishes.limit,
-        every_kind: false,
+        every_kind: None,
         compare: &|run, _| one_file(run, bytes, list, second),
         source: &source,
     }
@@ -137,7 +137,7 @@ fn run_groups(wishes: &Wishes) -> (u64, u64) {
             seed: wishes.seed.wrapping_add(place as u64),
             indices: wishes.index.map_or(0..group.count, |index| index..index + 1),
             limit: wishes.limit,
-            every_kind: group.every_kind && wishes.index.is_none(),
+            every_kind: group.every_kind.filter(|_| wishes.index.is_none()),
             compare: &group.run,
             source: &|index| Source::of_index(group.name, wishes.seed, index),
         };

@@ -2,11 +2,13 @@
 
 use crate::board::{Board, Tally};
 use crate::calls::{Call, Difference, Input, Memory, Name, Pair};
-use crate::kinds::{counted, Met};
+use crate::kinds::records::Asked;
+use crate::kinds::{days, files, pairs, records, Family, FAMILIES};
 use crate::report::{show, Source};
 use oracle::answers::{self, Schedule, Verdict};
 use oracle::best::Plan;
 use oracle::case::Case;
+use oracle::file;
 use oracle::lists::{any_list, disturb, walk};
 use oracle::random::Rng;
 use oracle::refusals::WORKING_NUMBERS;
@@ -108,30 +110,55 @@ impl Run {
     pub fn better(&mut self, case: &Case, pair: Pair) {
         let result = self.memory.better(case, pair);
         if let Ok(outcome) = result {
-            Met { case, pair, outcome }.count(&mut self.tally.pairs);
+            self.tally.kinds.pair(&pairs::Met::new(case, &pair, outcome));
         }
         self.note(result.map(|_| ()));
     }
 
-    /// Compares the search in just enough memory.
+    /// Compares the search in just enough memory, and counts the kinds of the day.
     pub fn best(&mut self, case: &Case, expected: &Schedule) {
         self.tally.refusals[expected.number as usize] += 1;
         let result = self.memory.best(case, WORKING_NUMBERS, case.t, expected);
+        if result.is_ok() {
+            self.tally.kinds.day(&days::Met::new(case, expected));
+        }
         self.note(result);
     }
 
-    /// Compares writing in just enough memory, and reading the written file.
-    fn file(&mut self, case: &Case) {
+    /// Compares reading a file, and counts its kinds.
+    pub fn read(&mut self, bytes: &[u8]) {
+        let result = self.memory.read(bytes);
+        if result.is_ok() {
+            self.tally.kinds.file(&files::Met::new(bytes));
+        }
+        self.note(result);
+    }
+
+    /// Counts a comparison of a call that was made with a record, and the kinds of that record.
+    pub fn note_record(&mut self, case: &Case, asked: Asked, number: u32, result: Result<(), Difference>) {
+        if result.is_ok() {
+            self.tally.refusals[number as usize] += 1;
+            self.tally.kinds.record(&records::Met { case: *case, asked, number });
+        }
+        self.note(result);
+    }
+
+    /// Compares writing in just enough memory, reading the written file, and reading the file of the old form, if there
+    /// is one: all three are one record.
+    pub fn files(&mut self, case: &Case) {
         let written = answers::writing(case, usize::MAX);
         let result = self.memory.write(case, written.bytes.len());
         self.note(result);
-        let result = self.memory.read(&written.bytes);
-        self.note(result);
+        self.read(&written.bytes);
+        if let Some(old) = file::old_file(case) {
+            self.independent(case, &file::read(&old), &file::read(&written.bytes));
+            self.read(&old);
+        }
     }
 
     /// Compares all five calls on a case within the limits whose best list is known, with a few lists.
     pub fn whole_case(&mut self, case: &Case, found: Option<Plan>, rng: &mut Rng) {
-        self.file(case);
+        self.files(case);
         let expected = answers::schedule(case, WORKING_NUMBERS, case.t, |_| found);
         self.best(case, &expected);
         let list = if expected.number == 0 { expected.list } else { walk(rng, case) };
@@ -146,19 +173,22 @@ impl Run {
     }
 }
 
-/// What a group met: refusals by number and first breaches by rule.
-pub fn remark(tally: &Tally) -> String {
+/// What a group met: refusals by number, first breaches by rule, pairs by kind, and the kinds that have to come up.
+pub fn remark(tally: &Tally, wanted: Option<Family>) -> String {
     let mut text = String::new();
     if tally.refusals.iter().any(|&count| count > 0) {
-        text += &format!("\n  refusals 0 to 11: {:?}", tally.refusals);
+        text += &format!("\n  refusals 0 to 13: {:?}", tally.refusals);
     }
     if tally.breaches.iter().any(|&count| count > 0) {
         let by_rule = RULES.iter().map(|&rule| tally.breaches[rule as usize]).collect::<Vec<_>>();
         text += &format!("\n  lists passed: {}, broken by rule {RULES:?}: {by_rule:?}", tally.breaches[0]);
         text += &format!(", at hour 0: {}", tally.at_hour_0);
     }
-    if tally.pairs.iter().any(|&count| count > 0) {
-        text += &format!("\n  pairs: {}", counted(&tally.pairs));
+    for family in FAMILIES {
+        let kinds = tally.kinds.words(family);
+        if !kinds.is_empty() && (family == Family::Pair || wanted == Some(family)) {
+            text += &format!("\n  {}s: {kinds}", family.word());
+        }
     }
     text
 }

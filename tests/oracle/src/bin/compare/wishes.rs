@@ -11,7 +11,7 @@ usage: compare [--seed N] [--groups NAME,NAME.. [--index N]] [--limit SECONDS]
        compare --groups
 The second runs one case, with a list to check if one is named, and a second one to compare it with; the third lists
 the groups. A call that takes longer than the limit, 10 s if none is named, is a difference. Status 1: something
-differs, or a kind of pairs has not come up.";
+differs, or a kind of pairs, files, records or days has not come up.";
 
 /// Seed of the first group; each next group has the next number.
 const SEED: u64 = 0x9109_a500;

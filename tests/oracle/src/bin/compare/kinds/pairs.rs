@@ -1,30 +1,22 @@
-//! The kinds of pairs of lists that a comparison meets, each with its test, to be counted.
+//! The kinds of pairs of lists (request F-1).
 
+use super::{kind, Kind};
 use crate::calls::Pair;
 use oracle::case::Case;
 use oracle::pair::{Outcome, Which, Why};
 use oracle::profit::profit;
 
 /// A pair that was compared, and what came of it.
-pub struct Met<'a> {
-    pub case: &'a Case,
-    pub pair: Pair<'a>,
-    pub outcome: Outcome,
+pub struct Met {
+    case: Case,
+    first: Vec<u16>,
+    second: Vec<u16>,
+    begins: Option<usize>,
+    outcome: Outcome,
 }
 
-/// A kind in words, and whether a pair is of it.
-pub struct Kind {
-    pub words: &'static str,
-    test: fn(&Met) -> bool,
-}
-
-/// A kind of the list below.
-const fn kind(words: &'static str, test: fn(&Met) -> bool) -> Kind {
-    Kind { words, test }
-}
-
-/// All kinds; a pair may be of several.
-pub const KINDS: [Kind; 23] = [
+/// All kinds.
+pub const KINDS: [Kind<Met>; 24] = [
     kind("first alone passes", |met| met.is(Which::First, Why::OtherBreaks)),
     kind("second alone passes", |met| met.is(Which::Second, Why::OtherBreaks)),
     kind("the broken one would earn more", |met| met.broken_would_earn_more()),
@@ -36,8 +28,8 @@ pub const KINDS: [Kind; 23] = [
     kind("tie to the larger sum", |met| met.tie_to_the_larger_sum()),
     kind("identical", |met| met.is(Which::First, Why::Identical)),
     kind("neither passes", |met| met.outcome == Outcome::Neither),
-    kind("same memory twice", |met| met.pair.begins == Some(0)),
-    kind("overlapping memory", |met| met.pair.begins.is_some_and(|begins| begins > 0)),
+    kind("same memory twice", |met| met.begins == Some(0)),
+    kind("overlapping memory", |met| met.begins.is_some_and(|begins| begins > 0)),
     kind("9 by the first", |met| met.refused_by_length(true, false)),
     kind("9 by the second", |met| met.refused_by_length(false, true)),
     kind("9 by both", |met| met.refused_by_length(true, true)),
@@ -48,9 +40,16 @@ pub const KINDS: [Kind; 23] = [
     kind("by 6", |met| met.outcome == Outcome::Refused(6)),
     kind("by 7", |met| met.outcome == Outcome::Refused(7)),
     kind("by 8", |met| met.outcome == Outcome::Refused(8)),
+    kind("by 13", |met| met.outcome == Outcome::Refused(13)),
 ];
 
-impl Met<'_> {
+impl Met {
+    /// A pair with its outcome.
+    pub fn new(case: &Case, pair: &Pair, outcome: Outcome) -> Met {
+        let Pair { first, second, begins } = *pair;
+        Met { case: *case, first: first.to_vec(), second: second.to_vec(), begins, outcome }
+    }
+
     /// Whether this list is the better one, and for this reason.
     fn is(&self, wanted: Which, reason: Why) -> bool {
         matches!(self.outcome, Outcome::Better { which, why, .. } if (which, why) == (wanted, reason))
@@ -64,8 +63,8 @@ impl Met<'_> {
     /// The better list, and the other one.
     fn better_first(&self) -> Option<(&[u16], &[u16])> {
         match self.outcome {
-            Outcome::Better { which: Which::First, .. } => Some((self.pair.first, self.pair.second)),
-            Outcome::Better { which: Which::Second, .. } => Some((self.pair.second, self.pair.first)),
+            Outcome::Better { which: Which::First, .. } => Some((&self.first, &self.second)),
+            Outcome::Better { which: Which::Second, .. } => Some((&self.second, &self.first)),
             _ => None,
         }
     }
@@ -73,7 +72,7 @@ impl Met<'_> {
     /// Whether one passes, and the broken one has the higher sum of profits.
     fn broken_would_earn_more(&self) -> bool {
         let alone = matches!(self.outcome, Outcome::Better { why: Why::OtherBreaks, .. });
-        let more = |(better, other)| profit(self.case, other) > profit(self.case, better);
+        let more = |(better, other)| profit(&self.case, other) > profit(&self.case, better);
         alone && self.better_first().is_some_and(more)
     }
 
@@ -93,25 +92,6 @@ impl Met<'_> {
     /// Whether 9 is the answer, and these lists are the ones that are not of T outputs.
     fn refused_by_length(&self, first: bool, second: bool) -> bool {
         let wrong = |list: &[u16]| list.len() != self.case.t;
-        self.outcome == Outcome::Refused(9)
-            && (wrong(self.pair.first), wrong(self.pair.second)) == (first, second)
+        self.outcome == Outcome::Refused(9) && (wrong(&self.first), wrong(&self.second)) == (first, second)
     }
-
-    /// Counts the pair at each kind that it is of.
-    pub fn count(&self, counts: &mut [u64; KINDS.len()]) {
-        for (kind, count) in KINDS.iter().zip(counts) {
-            *count += u64::from((kind.test)(self));
-        }
-    }
-}
-
-/// The counts in words, without the kinds that never came up.
-pub fn counted(counts: &[u64; KINDS.len()]) -> String {
-    let met = KINDS.iter().zip(counts).filter(|(_, &count)| count > 0);
-    met.map(|(kind, count)| format!("{} {count}", kind.words)).collect::<Vec<_>>().join(", ")
-}
-
-/// The kinds that never came up.
-pub fn missing(counts: &[u64; KINDS.len()]) -> Vec<&'static str> {
-    KINDS.iter().zip(counts).filter(|(_, &count)| count == 0).map(|(kind, _)| kind.words).collect()
 }

@@ -1,0 +1,277 @@
+//! The kinds of files of both forms (request F-2): which test refuses a file, and what a file holds that is read.
+
+use super::{kind, Kind};
+use oracle::case::Case;
+use oracle::file::{self, Form, OLD_PRICES};
+use oracle::refusals::{self, PRICES};
+
+/// A file that was read, and what came of it.
+pub struct Met {
+    bytes: Vec<u8>,
+    answer: Result<Case, u32>,
+    /// The pairs at its head: four or five as the first offset says, or none.
+    pairs: Vec<(usize, usize)>,
+    /// What it holds if neither 1 nor 2 refuses it.
+    held: Option<(Form, Case)>,
+}
+
+/// Places of the sections.
+const UNIT: usize = 0;
+const START_UP: usize = 1;
+const SHUT_DOWN: usize = 2;
+const HOURS: usize = 3;
+const FORM: usize = 4;
+
+/// All kinds.
+pub const KINDS: [Kind<Met>; 80] = [
+    kind("old form read", |met| met.is_read(4)),
+    kind("form 2 read", |met| met.is_read(5)),
+    kind("old price above 32,767", |met| met.is_read(4) && met.some_price(|price| price > 32_767)),
+    kind("price below zero", |met| met.is_read(5) && met.some_price(|price| price < 0)),
+    kind("above 65,535", |met| met.is_read(5) && met.some_price(|price| price > 65_535)),
+    kind("at the lower limit", |met| met.is_read(5) && met.some_price(|price| price == *PRICES.start())),
+    kind("at the upper limit", |met| met.is_read(5) && met.some_price(|price| price == *PRICES.end())),
+    kind("1: under 16 bytes", |met| met.refused(1) && met.bytes.len() < 16),
+    kind("16 to 19 bytes, offset 20", |met| met.is_short_of_five_pairs()),
+    kind("16 to 19 bytes, offset 16", |met| met.refused(1) && met.pairs.len() == 4 && met.bytes.len() < 20),
+    kind("offset 18", |met| met.opens_at(18)),
+    kind("offset 18, in order", |met| met.opens_at(18) && met.is_in_order_from(18)),
+    kind("offset 24", |met| met.opens_at(24)),
+    kind("offset 24, in order", |met| met.opens_at(24) && met.is_in_order_from(24)),
+    kind("another offset", |met| met.opens_elsewhere()),
+    kind("four pairs, at the second", |met| met.breaks_at(4, 2)),
+    kind("at the third", |met| met.breaks_at(4, 3)),
+    kind("at the fourth", |met| met.breaks_at(4, 4)),
+    kind("at the end", |met| met.breaks_at(4, 5)),
+    kind("five pairs, at the second", |met| met.breaks_at(5, 2)),
+    kind("at the third of five", |met| met.breaks_at(5, 3)),
+    kind("at the fourth of five", |met| met.breaks_at(5, 4)),
+    kind("at the fifth", |met| met.breaks_at(5, 5)),
+    kind("at the end of five", |met| met.breaks_at(5, 6)),
+    kind("four pairs, in order if sums wrap", |met| met.is_in_order_if_sums_wrap(4)),
+    kind("five pairs, in order if sums wrap", |met| met.is_in_order_if_sums_wrap(5)),
+    kind("2: four pairs past 65,535 bytes", |met| met.is_long(4)),
+    kind("five pairs past 65,535 bytes", |met| met.is_long(5)),
+    kind("old unit", |met| met.wrong_alone(4, UNIT)),
+    kind("old start-up", |met| met.wrong_alone(4, START_UP)),
+    kind("old shut-down", |met| met.wrong_alone(4, SHUT_DOWN)),
+    kind("old hours", |met| met.wrong_alone(4, HOURS)),
+    kind("unit", |met| met.wrong_alone(5, UNIT)),
+    kind("start-up", |met| met.wrong_alone(5, START_UP)),
+    kind("shut-down", |met| met.wrong_alone(5, SHUT_DOWN)),
+    kind("hours", |met| met.wrong_alone(5, HOURS)),
+    kind("form section", |met| met.wrong_alone(5, FORM)),
+    kind("old hours of 5 bytes", |met| met.wrong_alone(4, HOURS) && met.hours_of(5)),
+    kind("old hours of 4 bytes", |met| met.wrong_alone(4, HOURS) && met.hours_of(4)),
+    kind("hours of 3 bytes", |met| met.wrong_alone(5, HOURS) && met.hours_of(3)),
+    kind("hours of 4 bytes", |met| met.wrong_alone(5, HOURS) && met.hours_of(4)),
+    kind("form section of 0 bytes", |met| met.form_section_of(0)),
+    kind("of 1 byte", |met| met.form_section_of(1)),
+    kind("of 3 bytes", |met| met.form_section_of(3)),
+    kind("of 4 bytes", |met| met.form_section_of(4)),
+    kind("unit before 12", |met| met.before_12(UNIT)),
+    kind("start-up before 12", |met| met.before_12(START_UP)),
+    kind("shut-down before 12", |met| met.before_12(SHUT_DOWN)),
+    kind("hours before 12", |met| met.before_12(HOURS)),
+    kind("12: form number 0", |met| met.form_number(0)),
+    kind("number 1", |met| met.form_number(1)),
+    kind("number 3", |met| met.form_number(3)),
+    kind("number 255", |met| met.form_number(255)),
+    kind("number 256", |met| met.form_number(256)),
+    kind("number 512", |met| met.form_number(512)),
+    kind("number 65,535", |met| met.form_number(65_535)),
+    kind("12 before 3 to 7", |met| met.refused(12) && matches!(met.limit(), Some(3..=7))),
+    kind("12 before 8", |met| met.refused(12) && met.limit() == Some(8)),
+    kind("12 before 13", |met| met.refused(12) && met.limit() == Some(13)),
+    kind("old form, 3", |met| met.refused_by_limit(4, 3)),
+    kind("old form, 4", |met| met.refused_by_limit(4, 4)),
+    kind("old form, 5", |met| met.refused_by_limit(4, 5)),
+    kind("old form, 6", |met| met.refused_by_limit(4, 6)),
+    kind("old form, 7", |met| met.refused_by_limit(4, 7)),
+    kind("old form, 8", |met| met.refused_by_limit(4, 8)),
+    kind("form 2, 3", |met| met.refused_by_limit(5, 3)),
+    kind("form 2, 4", |met| met.refused_by_limit(5, 4)),
+    kind("form 2, 5", |met| met.refused_by_limit(5, 5)),
+    kind("form 2, 6", |met| met.refused_by_limit(5, 6)),
+    kind("form 2, 7", |met| met.refused_by_limit(5, 7)),
+    kind("form 2, 8", |met| met.refused_by_limit(5, 8)),
+    kind("old form, a cost of 2^31 or more", |met| met.refused_by_limit(4, 5) && met.some_cost_below_zero()),
+    kind("form 2, a cost of 2^31 or more", |met| met.refused_by_limit(5, 5) && met.some_cost_below_zero()),
+    kind("13", |met| met.refused_by_limit(5, 13)),
+    kind("one above the limit", |met| met.refused(13) && met.outside_alone(PRICES.end() + 1)),
+    kind("one below the limit", |met| met.refused(13) && met.outside_alone(PRICES.start() - 1)),
+    kind("13 by hour T", |met| met.refused(13) && met.outside().eq([met.hours()])),
+    kind("3 to 7 before 13", |met| matches!(met.answer, Err(3..=7)) && met.outside().next().is_some()),
+    kind("8 before 13", |met| met.refused(8) && met.outside().next().is_some()),
+    kind("old prices in form 2", |met| {
+        met.is_read(5) && !met.some_price(|price| !OLD_PRICES.contains(&price))
+    }),
+];
+
+impl Met {
+    /// A file with its answer.
+    pub fn new(bytes: &[u8]) -> Met {
+        let count = match bytes {
+            [16, 0, ..] if bytes.len() >= 16 => 4,
+            [20, 0, ..] if bytes.len() >= 20 => 5,
+            _ => 0,
+        };
+        let number = |at: usize| usize::from(bytes[at]) + 256 * usize::from(bytes[at + 1]);
+        let pairs = (0..count).map(|i| (number(4 * i), number(4 * i + 2))).collect();
+        Met { bytes: bytes.to_vec(), answer: file::read(bytes), pairs, held: file::held(bytes).ok() }
+    }
+
+    /// Whether it is refused with this number.
+    fn refused(&self, number: u32) -> bool {
+        self.answer == Err(number)
+    }
+
+    /// Whether it is read, and has so many pairs.
+    fn is_read(&self, pairs: usize) -> bool {
+        self.answer.is_ok() && self.pairs.len() == pairs
+    }
+
+    /// Whether a price of hours 1 to T is such.
+    fn some_price(&self, test: fn(i32) -> bool) -> bool {
+        self.held.is_some_and(|(_, case)| case.prices[..case.t].iter().any(|&price| test(price)))
+    }
+
+    /// Whether it begins with 20 and has no room for five pairs.
+    fn is_short_of_five_pairs(&self) -> bool {
+        self.refused(1) && self.bytes.starts_with(&[20, 0]) && (16..20).contains(&self.bytes.len())
+    }
+
+    /// Whether it is refused and its first offset is this one.
+    fn opens_at(&self, offset: u8) -> bool {
+        self.refused(1) && self.bytes.len() >= 16 && self.bytes.starts_with(&[offset, 0])
+    }
+
+    /// Whether its first offset is none of 16, 18, 20 and 24.
+    fn opens_elsewhere(&self) -> bool {
+        let elsewhere = !matches!(self.bytes[..], [16 | 18 | 20 | 24, 0, ..]);
+        self.refused(1) && self.bytes.len() >= 16 && elsewhere
+    }
+
+    /// Whether four, five or six pairs at its head are a chain from this offset on that ends with the file.
+    fn is_in_order_from(&self, first: usize) -> bool {
+        let number = |at: usize| usize::from(self.bytes[at]) + 256 * usize::from(self.bytes[at + 1]);
+        let chain = |count: usize| {
+            let mut next = first;
+            self.bytes.len() >= 4 * count
+                && (0..count).all(|i| {
+                    let as_expected = number(4 * i) == next;
+                    next = number(4 * i) + number(4 * i + 2);
+                    as_expected
+                })
+                && next == self.bytes.len()
+        };
+        (4..=6).any(chain)
+    }
+
+    /// The first pair, counted from 1, whose offset is not where the section before ends; one more than there are if
+    /// the last section does not end with the file.
+    fn first_break(&self) -> Option<usize> {
+        let mut next = 4 * self.pairs.len();
+        for (i, &(offset, length)) in self.pairs.iter().enumerate() {
+            if offset != next {
+                return Some(i + 1);
+            }
+            next = offset + length;
+        }
+        (next != self.bytes.len()).then_some(self.pairs.len() + 1)
+    }
+
+    /// Whether so many pairs break there.
+    fn breaks_at(&self, pairs: usize, place: usize) -> bool {
+        self.refused(1) && self.pairs.len() == pairs && self.first_break() == Some(place)
+    }
+
+    /// Whether so many pairs are a chain in order only if sums wrap at 65,536.
+    fn is_in_order_if_sums_wrap(&self, pairs: usize) -> bool {
+        let mut next = 4 * pairs;
+        let wrapped = self.pairs.iter().all(|&(offset, length)| {
+            let as_expected = offset == next;
+            next = (offset + length) % 65_536;
+            as_expected
+        });
+        self.refused(1) && self.pairs.len() == pairs && wrapped && next == self.bytes.len() % 65_536
+    }
+
+    /// Whether so many pairs are a chain in order in a file of more than 65,535 bytes.
+    fn is_long(&self, pairs: usize) -> bool {
+        self.refused(2) && self.pairs.len() == pairs && self.bytes.len() > 65_535
+    }
+
+    /// The length of a section.
+    fn length(&self, section: usize) -> usize {
+        self.pairs[section].1
+    }
+
+    /// Whether the length of a section is as laid down.
+    fn fits(&self, section: usize) -> bool {
+        let length = self.length(section);
+        match section {
+            UNIT => length == 32,
+            START_UP | SHUT_DOWN => [2, 4, 6, 8, 10, 12, 14, 16].contains(&length),
+            HOURS => (1..=48).any(|hours| length == hours * (2 * self.pairs.len() - 5)),
+            _ => length == 2,
+        }
+    }
+
+    /// Whether this section of so many pairs alone has a wrong length.
+    fn wrong_alone(&self, pairs: usize, section: usize) -> bool {
+        self.refused(2) && self.pairs.len() == pairs && (0..pairs).all(|i| self.fits(i) == (i != section))
+    }
+
+    /// Whether the hours are 1 to 48 entries of so many bytes.
+    fn hours_of(&self, bytes: usize) -> bool {
+        (1..=48).any(|hours| self.length(HOURS) == hours * bytes)
+    }
+
+    /// Whether the form section alone has a wrong length, and it is this one.
+    fn form_section_of(&self, bytes: usize) -> bool {
+        self.wrong_alone(5, FORM) && self.length(FORM) == bytes
+    }
+
+    /// Whether this section alone has a wrong length, beside a form number that is not 2.
+    fn before_12(&self, section: usize) -> bool {
+        self.wrong_alone(5, section) && !self.bytes.ends_with(&[2, 0])
+    }
+
+    /// Whether it is refused for this form number.
+    fn form_number(&self, number: u16) -> bool {
+        self.refused(12) && self.held.is_some_and(|(form, _)| form == Form::Numbered(number))
+    }
+
+    /// The refusal of the record that it holds.
+    fn limit(&self) -> Option<u32> {
+        self.held.and_then(|(_, case)| refusals::record(&case).err())
+    }
+
+    /// Whether so many pairs hold a record that is refused so.
+    fn refused_by_limit(&self, pairs: usize, number: u32) -> bool {
+        self.refused(number) && self.pairs.len() == pairs && self.held.is_some()
+    }
+
+    /// Whether a cost that it holds is below zero.
+    fn some_cost_below_zero(&self) -> bool {
+        self.held.is_some_and(|(_, case)| [case.f, case.a, case.b, case.c].iter().any(|&cost| cost < 0))
+    }
+
+    /// The number of hours that it holds.
+    fn hours(&self) -> usize {
+        self.held.map_or(0, |(_, case)| case.t)
+    }
+
+    /// The hours, from 1 to T, whose price is outside the range.
+    fn outside(&self) -> impl Iterator<Item = usize> + '_ {
+        let price = |k: usize| self.held.map_or(0, |(_, case)| case.prices[k - 1]);
+        (1..=self.hours()).filter(move |&k| !PRICES.contains(&price(k)))
+    }
+
+    /// Whether one hour alone has a price outside the range, and it is this one.
+    fn outside_alone(&self, price: i32) -> bool {
+        let held = |k: usize| self.held.map_or(0, |(_, case)| case.prices[k - 1]);
+        self.outside().map(held).eq([price])
+    }
+}

@@ -1,0 +1,116 @@
+//! The kinds of what a comparison meets, each with its test, to be counted: pairs of lists, files, records and days.
+
+pub mod days;
+pub mod files;
+pub mod pairs;
+pub mod records;
+
+/// A kind in words, and whether what was met is of it.
+pub struct Kind<M> {
+    words: &'static str,
+    test: fn(&M) -> bool,
+}
+
+/// A kind of a list of kinds.
+const fn kind<M>(words: &'static str, test: fn(&M) -> bool) -> Kind<M> {
+    Kind { words, test }
+}
+
+/// What has kinds.
+#[derive(Clone, Copy, Debug, PartialEq, Eq)]
+pub enum Family {
+    Pair,
+    File,
+    Record,
+    Day,
+}
+
+/// All of them, in the order in which they are printed.
+pub const FAMILIES: [Family; 4] = [Family::Pair, Family::File, Family::Record, Family::Day];
+
+impl Family {
+    /// The word for one.
+    pub fn word(self) -> &'static str {
+        match self {
+            Family::Pair => "pair",
+            Family::File => "file",
+            Family::Record => "record",
+            Family::Day => "day",
+        }
+    }
+}
+
+/// How often each kind came up; what is met may be of several.
+#[derive(Clone, Copy)]
+pub struct Counts {
+    pairs: [u64; pairs::KINDS.len()],
+    files: [u64; files::KINDS.len()],
+    records: [u64; records::KINDS.len()],
+    days: [u64; days::KINDS.len()],
+}
+
+impl Default for Counts {
+    fn default() -> Counts {
+        Counts {
+            pairs: [0; pairs::KINDS.len()],
+            files: [0; files::KINDS.len()],
+            records: [0; records::KINDS.len()],
+            days: [0; days::KINDS.len()],
+        }
+    }
+}
+
+impl Counts {
+    /// Counts a pair.
+    pub fn pair(&mut self, met: &pairs::Met) {
+        add(&pairs::KINDS, met, &mut self.pairs);
+    }
+
+    /// Counts a file.
+    pub fn file(&mut self, met: &files::Met) {
+        add(&files::KINDS, met, &mut self.files);
+    }
+
+    /// Counts a record.
+    pub fn record(&mut self, met: &records::Met) {
+        add(&records::KINDS, met, &mut self.records);
+    }
+
+    /// Counts a day.
+    pub fn day(&mut self, met: &days::Met) {
+        add(&days::KINDS, met, &mut self.days);
+    }
+
+    /// Each kind in words, with how often it came up.
+    fn of(&self, family: Family) -> Vec<(&'static str, u64)> {
+        match family {
+            Family::Pair => beside(&pairs::KINDS, &self.pairs),
+            Family::File => beside(&files::KINDS, &self.files),
+            Family::Record => beside(&records::KINDS, &self.records),
+            Family::Day => beside(&days::KINDS, &self.days),
+        }
+    }
+
+    /// The counts in words, without the kinds that never came up.
+    pub fn words(&self, family: Family) -> String {
+        let met = self.of(family).into_iter().filter(|&(_, count)| count > 0);
+        met.map(|(words, count)| format!("{words} {count}")).collect::<Vec<_>>().join("; ")
+    }
+
+    /// The kinds that never came up.
+    pub fn missing(&self, family: Family) -> Vec<&'static str> {
+        self.of(family).into_iter().filter(|&(_, count)| count == 0).map(|(words, _)| words).collect()
+    }
+}
+
+/// Adds one to each kind that something is of.
+fn add<M>(kinds: &[Kind<M>], met: &M, counts: &mut [u64]) {
+    for (kind, count) in kinds.iter().zip(counts) {
+        *count += u64::from((kind.test)(met));
+    }
+}
+
+/// The kinds in words beside their counts.
+fn beside<M>(kinds: &[Kind<M>], counts: &[u64]) -> Vec<(&'static str, u64)> {
+    kinds.iter().map(|kind| kind.words).zip(counts.iter().copied()).collect()
+}
