@@ -168,6 +168,16 @@ class Found(ToolTest):
             self.assertEqual(lines[20], "  20  free       2,750.000          240         240.0    649,920.0000")
             self.assertEqual({len(line) for line in lines[:26]}, {len(lines[0])})
 
+    def test_page(self):
+        """What docs/readers/trading-desk.md shows of the stored day below 0 is printed, in its order."""
+        page = (ROOT / "docs/readers/trading-desk.md").read_text()
+        shown = re.search(r"\n    tools/case/case best cases/below_zero.case\n\n((?:    .*\n)+)", page)[1].splitlines()
+        self.assertEqual(len(shown), 10)
+        for _, text in self.both(BELOW_ZERO):
+            printed = iter(text.splitlines())
+            for line in shown:
+                self.assertIn(line.removeprefix("    "), printed)
+
     def test_wide_amounts(self):
         """A column is as wide as its widest amount."""
         data = file_of(capacity=400, rampup=400, initial=400, prices=[10**7] * 3, fixed=10**8)
@@ -208,7 +218,7 @@ profit 23399976000 half-mills
             (1, bytes(5000), "byte 0: offset of unit: 0, 20 (16 in the old form) needed"),
             (12, CASE_7[:-2] + b"\x05\x00", "byte 75: form number: 5, 2 needed"),
             (13, file_of(prices=[5, 5, 10**7 + 1]), "prices: 10,000,001 mills ($10,000.001) at hour 3, from "
-             "-10,000,000 mills ($-10,000.000) to 10,000,000 mills ($10,000.000) allowed"),
+             "$-10,000.000 to $10,000.000 allowed"),
         ]:
             for status, text in self.both(data):
                 self.assertEqual(status, 2)

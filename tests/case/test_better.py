@@ -296,7 +296,7 @@ class BetterFaults(PairTest):
             (8, file_of(orders=[0, 3, 0]), "orders: 3 at hour 2, 0 (free), 1 (on) or 2 (off) allowed"),
             (12, CASE_7[:-2] + b"\3\0", "byte 75: form number: 3, 2 needed"),
             (13, file_of(prices=[-(10**7) - 1, 5, 5]), "prices: -10,000,001 mills ($-10,000.001) at hour 1, from "
-             "-10,000,000 mills ($-10,000.000) to 10,000,000 mills ($10,000.000) allowed"),
+             "$-10,000.000 to $10,000.000 allowed"),
         ]:
             words = ("better", self.file("d.case", data), "a.csv", "a.csv")
             self.at_fault(f"d.case: refused {number}: {listed[number]}\n{said}", *words)

@@ -248,7 +248,7 @@ class Refused(ToolTest):
     def test_prices(self):
         """Hour, value and limit, and the line; also for a price that no record holds."""
         text = "a price outside -10,000,000 to 10,000,000"
-        limits = "from -10,000,000 mills ($-10,000.000) to 10,000,000 mills ($10,000.000) allowed"
+        limits = "from $-10,000.000 to $10,000.000 allowed"
         for cell, value in [
             ("10000001", "10,000,001 mills ($10,000.001)"), ("-10000001", "-10,000,001 mills ($-10,000.001)"),
             ("2147483648", "2,147,483,648 mills ($2,147,483.648)"),

@@ -117,7 +117,7 @@ class OwnReader(ToolTest):
         """What is said of the bytes at fault."""
         first, second, twelfth, fifth, last = (texts("refusals.tsv")[number] for number in (1, 2, 12, 5, 13))
         hours = file_of(prices=[1] * 49, orders=[0] * 49)
-        limits = "from -10,000,000 mills ($-10,000.000) to 10,000,000 mills ($10,000.000) allowed"
+        limits = "from $-10,000.000 to $10,000.000 allowed"
         for data, text in [
             (b"", f"refused 1: {first}\nbytes: 0, at least 16 needed"),
             (bytes(range(256)), f"refused 1: {first}\nbyte 0: offset of unit: 256, 20 (16 in the old form) needed\n"),

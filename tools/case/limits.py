@@ -103,5 +103,5 @@ def _prices(case):
     least, most = giqapsun.PRICE_LEAST, giqapsun.PRICE_MOST
     for hour, price in enumerate(case.prices, 1):
         if not least <= price <= most:
-            allowed = f"from {_money(least)} to {_money(most)} allowed"
+            allowed = f"from ${dollars_of_mills(least)} to ${dollars_of_mills(most)} allowed"
             yield Wrong("prices", f"{_money(price)} at hour {hour}, {allowed}", hour)
