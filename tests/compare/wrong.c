@@ -29,17 +29,91 @@ static uint32_t deeper(volatile uint32_t depth)
     return depth == 0 ? 0 : deeper(depth - 1) + room[0];
 }
 
+/* Most mills of a price, either way. */
+#define MOST 10000000
+
+/* Number i of those at the head of a file: offset and length of each pair in turn. */
+static unsigned head(const uint8_t *file, size_t i)
+{
+    return file[2 * i] + 256u * file[2 * i + 1];
+}
+
+/* What a refused reading gives. */
+static struct giqapsun_reading refused(uint32_t number)
+{
+    struct giqapsun_reading reading;
+    memset(&reading, 0, sizeof reading);
+    reading.number = number;
+    return reading;
+}
+
+/* Reading as if the form number were 2. */
+static struct giqapsun_reading read_as_form_2(const uint8_t *file, size_t n)
+{
+    uint8_t copy[GIQAPSUN_FILE_MOST];
+    memcpy(copy, file, n);
+    memcpy(copy + n - 2, "\2", 2);
+    return right_read(copy, n);
+}
+
+/* Reading of a file that is wrong about its form. */
+static struct giqapsun_reading read_wrong_form(const uint8_t *file, size_t n, struct giqapsun_reading right)
+{
+    if (wrong("pairs") && n >= 16 && n < 20 && head(file, 0) == 20)
+        right.number += *(volatile const uint8_t *)(file + 19) == 0;
+    if (wrong("form") && right.number == 12)
+        return read_as_form_2(file, n);
+    if (right.number != 2 || head(file, 0) != 20)
+        return right;
+    if (wrong("twelve") && head(file, 9) == 2 && head(file + n - 2, 0) != 2)
+        return refused(12);
+    if (wrong("section") && head(file, 9) != 2)
+        return refused(12);
+    return right;
+}
+
+/* Reading of an accepted file that is wrong about the sign of its prices. */
+static struct giqapsun_reading read_wrong_sign(const uint8_t *file, struct giqapsun_reading right)
+{
+    for (size_t k = 0; k < right.c.hours; k++) {
+        if (wrong("signed") && head(file, 0) == 16)
+            right.c.prices[k] = (int16_t)right.c.prices[k];
+        if (wrong("unsigned") && right.c.prices[k] < 0)
+            return refused(13);
+    }
+    return right;
+}
+
 struct giqapsun_reading giqapsun_read(const uint8_t *file, size_t n)
 {
     struct giqapsun_reading reading = right_read(file, n);
     if (wrong("stack") && reading.number == 0)
         reading.number = deeper(UINT32_MAX);
-    return reading;
+    return reading.number == 0 ? read_wrong_sign(file, reading) : read_wrong_form(file, n, reading);
+}
+
+/* Turns a file of form 2 into one of the old form, and gives its length. */
+static size_t as_old(struct giqapsun_case c, uint8_t *bytes)
+{
+    size_t sections = 32 + 2 * (c.rises + c.falls);
+    memmove(bytes + 16, bytes + 20, sections);
+    for (size_t i = 0; i < 4; i++)
+        bytes[4 * i] -= 4;
+    bytes[14] = (uint8_t)(3 * c.hours);
+    for (size_t k = 0; k < c.hours; k++) {
+        uint8_t *hour = bytes + 16 + sections + 3 * k;
+        hour[0] = (uint8_t)c.prices[k];
+        hour[1] = (uint8_t)(c.prices[k] >> 8);
+        hour[2] = c.orders[k];
+    }
+    return 16 + sections + 3 * c.hours;
 }
 
 struct giqapsun_written giqapsun_write(struct giqapsun_case c, uint8_t *bytes, size_t n)
 {
     struct giqapsun_written written = right_write(c, bytes, n);
+    if (wrong("old") && written.number == 0)
+        written.length = as_old(c, bytes);
     if (wrong("abort") && written.number == 0)
         abort();
     if (wrong("exit") && written.number == 0)
@@ -57,12 +131,21 @@ struct giqapsun_verdict giqapsun_check(struct giqapsun_case c, const uint16_t *l
             ;
     if (wrong("rule") && verdict.rule == 6)
         verdict.rule = 5;
+    if (wrong("narrow"))
+        verdict.profit = (int32_t)verdict.profit;
     return verdict;
 }
 
 struct giqapsun_plan giqapsun_best(struct giqapsun_case c, int64_t *work, size_t n, uint16_t *outputs, size_t m)
 {
     struct giqapsun_plan plan = right_best(c, work, n, outputs, m);
+    if (wrong("short") && plan.number == 13 && n < GIQAPSUN_WORK)
+        plan.number = 10;
+    if (wrong("zero") && plan.number == 0) {
+        for (size_t k = 0; k < c.hours; k++)
+            c.prices[k] = c.prices[k] < 0 ? 0 : c.prices[k];
+        plan = right_best(c, work, n, outputs, m);
+    }
     if (wrong("profit") && plan.number == 0)
         plan.profit += 1;
     if (wrong("work") && plan.number == 11)
@@ -98,10 +181,42 @@ static int tied(struct giqapsun_case c, const uint16_t *first, const uint16_t *s
     return one.rule == 0 && other.rule == 0 && one.profit == other.profit;
 }
 
+/* Whether one of the prices from a place to before another is outside the range. */
+static int outside(const struct giqapsun_case *c, size_t from, size_t to)
+{
+    for (size_t k = from; k < to; k++)
+        if (c->prices[k] < -MOST || c->prices[k] > MOST)
+            return 1;
+    return 0;
+}
+
+/* The number of a comparison that is wrong about the price of a record, or about a cost; the record is changed where
+   it is taken for one within the limits. */
+static uint32_t wrong_limit(struct giqapsun_case *c, uint32_t right, size_t n)
+{
+    if (wrong("after") && right == 0 && outside(c, c->hours, GIQAPSUN_HOURS))
+        return 13;
+    if (wrong("eight") && right == 8 && outside(c, 0, c->hours))
+        return 13;
+    if (wrong("nine") && right == 13 && n != c->hours)
+        return 9;
+    if (wrong("limit") && right == 13)
+        for (size_t k = 0; k < c->hours; k++)
+            c->prices[k] -= c->prices[k] == MOST + 1;
+    if (wrong("cost") && right == 5 && c->variable < 0)
+        c->variable = 0;
+    return right;
+}
+
 struct giqapsun_choice giqapsun_better(struct giqapsun_case c, const uint16_t *first, size_t n, const uint16_t *second,
                                        size_t m)
 {
     struct giqapsun_choice choice = right_better(c, first, n, second, m);
+    uint32_t number = wrong_limit(&c, choice.number, n);
+    if (number != choice.number)
+        return (struct giqapsun_choice){number, 0, 0};
+    if (number == 5 || number == 13)
+        return right_better(c, first, n, second, m);
     if (wrong("length") && choice.number == 9 && n == c.hours)
         return right_better(c, first, n, second, n);
     if (choice.which == 0)

@@ -3,7 +3,7 @@
 wrong_library() {
     local renamed=() call
     for call in read write check best better; do
-        renamed+=(--redefine-sym "giqapsun_${call}_1=right_${call}")
+        renamed+=(--redefine-sym "giqapsun_${call}_2=right_${call}")
     done
     mkdir -p "$1"
     objcopy "${renamed[@]}" "$GIQAPSUN_LIB_DIR/libgiqapsun.a" "$1/libgiqapsun.a"
