@@ -1,13 +1,15 @@
 /*
  * Fuzz target over the C boundary. Each input is tried in three ways:
- *   as a file, up to the end that its pairs name, and the rest as outputs of a list to check;
+ *   as a file of the old form or of form 2, up to the end that its pairs name, and the rest as outputs of a list to
+ *   check;
  *   as a record, byte for byte, with counts and numbers of any size;
  *   as a record brought within the limits, so that every input is also searched.
+ * An accepted case at prices that the old form can hold is read from a file of that form too.
  * Of each accepted case pairs of lists are compared too: its best list, the best one at the prices in reverse, near
  * misses and the input's own numbers, at its own prices and at prices that leave no margin, where lists earn the same.
  * Every answer is compared with that of the independent scheduler of tests/oracle; its search is left out on
  * large days, where it takes too long. Whatever the answers have to agree in among themselves is tested too.
- * Any difference aborts. The last line says how often each outcome of a pair came up.
+ * Any difference aborts. The last lines say how often each outcome of a file and of a pair came up.
  */
 #include "giqapsun.h"
 #include <stdio.h>
@@ -78,12 +80,31 @@ static int64_t work[MARGIN + GIQAPSUN_WORK + MARGIN], work_before[MARGIN + GIQAP
 static uint16_t outputs[MARGIN + GIQAPSUN_HOURS + MARGIN], outputs_before[MARGIN + GIQAPSUN_HOURS + MARGIN];
 static uint8_t file[MARGIN + GIQAPSUN_FILE_MOST + MARGIN], file_before[MARGIN + GIQAPSUN_FILE_MOST + MARGIN];
 
+/* Files and pairs by their outcome. */
+static struct {
+    unsigned long old, form_2, files_refused, by_12, by_13;
+    unsigned long refused, neither, alone, profit, tie, identical;
+} met;
+
+static void print_met(void)
+{
+    fprintf(stderr, "files: old form %lu, form 2 %lu, refused %lu, ", met.old, met.form_2, met.files_refused);
+    fprintf(stderr, "by 12 %lu, by 13 %lu\n", met.by_12, met.by_13);
+    fprintf(stderr, "pairs: refused %lu, neither passes %lu, one passes %lu, ", met.refused, met.neither, met.alone);
+    fprintf(stderr, "higher profit %lu, tie %lu, identical %lu\n", met.profit, met.tie, met.identical);
+}
+
 /* giqapsun_read, compared. */
 static struct giqapsun_reading read_in(const uint8_t *bytes, size_t n)
 {
     struct giqapsun_reading reading = giqapsun_read(bytes, n), expected = oracle_read(bytes, n);
     HOLDS(reading.number == expected.number);
     HOLDS(memcmp(&reading.c, &expected.c, sizeof reading.c) == 0);
+    met.old += reading.number == 0 && bytes[0] == 16;
+    met.form_2 += reading.number == 0 && bytes[0] == 20;
+    met.files_refused += reading.number != 0;
+    met.by_12 += reading.number == 12;
+    met.by_13 += reading.number == 13;
     return reading;
 }
 
@@ -159,17 +180,6 @@ static struct giqapsun_verdict checked(struct giqapsun_case c, const uint16_t *l
     return verdict;
 }
 
-/* Pairs by their outcome. */
-static struct {
-    unsigned long refused, neither, alone, profit, tie, identical;
-} met;
-
-static void print_met(void)
-{
-    fprintf(stderr, "pairs: refused %lu, neither passes %lu, one passes %lu, ", met.refused, met.neither, met.alone);
-    fprintf(stderr, "higher profit %lu, tie %lu, identical %lu\n", met.profit, met.tie, met.identical);
-}
-
 /* giqapsun_better, compared, with both lists compared and the answer's form tested. */
 static struct giqapsun_choice chosen(struct giqapsun_case c, const uint16_t *first, size_t n, const uint16_t *second,
                                      size_t m)
@@ -217,12 +227,11 @@ static void try_pair(struct giqapsun_case c, const uint16_t *first, const uint16
    nothing. */
 static struct giqapsun_case without_margin(struct giqapsun_case c, struct bytes *rest)
 {
-    c.variable = c.variable < UINT16_MAX ? c.variable : UINT16_MAX;
     c.fixed = 0;
     if (take8(rest) % 2 == 0)
         c.startcost = c.stopcost = 0;
     for (size_t k = 0; k < c.hours; k++)
-        c.prices[k] = (uint16_t)c.variable;
+        c.prices[k] = c.variable;
     return c;
 }
 
@@ -277,7 +286,59 @@ static void not_better(struct giqapsun_case c, const uint16_t *list, struct giqa
     }
 }
 
-/* An accepted case and the bytes of its file. */
+/* Puts a 16-bit number at a place, and gives the place after it. */
+static uint8_t *put16(uint8_t *at, size_t number)
+{
+    at[0] = (uint8_t)number;
+    at[1] = (uint8_t)(number >> 8);
+    return at + 2;
+}
+
+/* Makes the file of the old form from that of form 2, and gives its length; 0 if a price has no room in it. */
+static size_t old_file(const struct giqapsun_case *c, const uint8_t *bytes, uint8_t *old)
+{
+    size_t lengths[4] = {32, 2 * c->rises, 2 * c->falls, 3 * c->hours}, offset = 16;
+    uint8_t *at = old;
+    for (int i = 0; i < 4; i++) {
+        at = put16(put16(at, offset), lengths[i]);
+        offset += lengths[i];
+    }
+    size_t before_hours = lengths[0] + lengths[1] + lengths[2];
+    memcpy(at, bytes + 20, before_hours);
+    at += before_hours;
+    for (size_t k = 0; k < c->hours; k++) {
+        if (c->prices[k] < 0 || c->prices[k] > UINT16_MAX)
+            return 0;
+        at = put16(at, (size_t)c->prices[k]);
+        *at++ = c->orders[k];
+    }
+    return offset;
+}
+
+/* Reads the file of the old form: the same record as that of form 2, and refused with a byte less or more. */
+static void try_old_form(struct giqapsun_case c, const uint8_t *bytes)
+{
+    uint8_t old[GIQAPSUN_FILE_MOST + 1] = {0};
+    size_t n = old_file(&c, bytes, old);
+    if (n == 0)
+        return;
+    struct giqapsun_reading reading = read_in(old, n);
+    HOLDS(reading.number == 0 && memcmp(&reading.c, &c, sizeof c) == 0);
+    HOLDS(read_in(old, n - 1).number == 1 && read_in(old, n + 1).number == 1);
+}
+
+/* Reads the file of form 2 with another form number, and as a file of four pairs: refused. */
+static void try_other_form(const uint8_t *bytes, size_t n, struct bytes *rest)
+{
+    uint8_t other[GIQAPSUN_FILE_MOST];
+    memcpy(other, bytes, n);
+    put16(other + n - 2, take16(rest));
+    HOLDS(read_in(other, n).number == (memcmp(other + n - 2, bytes + n - 2, 2) == 0 ? 0 : 12));
+    other[0] = 16;
+    HOLDS(read_in(other, n).number == 1);
+}
+
+/* An accepted case and the bytes of its file of form 2. */
 static void try_accepted(struct giqapsun_case c, const uint8_t *bytes, size_t n, struct bytes *rest)
 {
     struct giqapsun_written w = written_in(c, GIQAPSUN_FILE_MOST);
@@ -285,6 +346,8 @@ static void try_accepted(struct giqapsun_case c, const uint8_t *bytes, size_t n,
     w = written_in(c, n);
     HOLDS(w.number == 0 && w.length == n);
     HOLDS(written_in(c, n - 1).number == 10);
+    try_old_form(c, bytes);
+    try_other_form(bytes, n, rest);
     HOLDS(best_in(c, GIQAPSUN_WORK - 1, GIQAPSUN_HOURS).number == 10);
     HOLDS(best_in(c, GIQAPSUN_WORK, c.hours - 1).number == 10);
 
@@ -316,16 +379,36 @@ static void try_accepted(struct giqapsun_case c, const uint8_t *bytes, size_t n,
     try_pairs(c, best, list, plan.number == 0, rest);
 }
 
-/* The bytes of a file. */
+/* Whether a reading can be refused with this number, and a record. */
+static int refuses_files(uint32_t number)
+{
+    return (number >= 1 && number <= 8) || number == 12 || number == 13;
+}
+
+static int refuses_records(uint32_t number)
+{
+    return (number >= 2 && number <= 8) || number == 13;
+}
+
+/* The bytes of a file of either form; one of the old form is tried further as its record is written. */
 static void try_file(const uint8_t *bytes, size_t n, struct bytes *rest)
 {
     static const struct giqapsun_case zero;
     struct giqapsun_reading reading = read_in(bytes, n);
-    HOLDS(reading.number <= 8);
-    if (reading.number != 0)
+    if (reading.number != 0) {
+        HOLDS(refuses_files(reading.number));
         HOLDS(memcmp(&reading.c, &zero, sizeof zero) == 0);
+        return;
+    }
+    uint8_t again[GIQAPSUN_FILE_MOST], old[GIQAPSUN_FILE_MOST];
+    struct giqapsun_written w = written_in(reading.c, GIQAPSUN_FILE_MOST);
+    HOLDS(w.number == 0);
+    memcpy(again, file + MARGIN, w.length);
+    if (bytes[0] == 20)
+        HOLDS(w.length == n && memcmp(again, bytes, n) == 0);
     else
-        try_accepted(reading.c, bytes, n, rest);
+        HOLDS(old_file(&reading.c, again, old) == n && memcmp(old, bytes, n) == 0);
+    try_accepted(reading.c, again, w.length, rest);
 }
 
 /* A record: all calls refuse it alike, or its file is read back as the record. */
@@ -334,7 +417,7 @@ static void try_record(struct giqapsun_case c, struct bytes *rest)
     uint16_t list[GIQAPSUN_HOURS] = {0};
     struct giqapsun_written w = written_in(c, GIQAPSUN_FILE_MOST);
     if (w.number != 0) {
-        HOLDS(w.number >= 2 && w.number <= 8);
+        HOLDS(refuses_records(w.number));
         HOLDS(checked(c, list, GIQAPSUN_HOURS).number == w.number);
         HOLDS(chosen(c, list, GIQAPSUN_HOURS, list, 0).number == w.number);
         HOLDS(best_in(c, GIQAPSUN_WORK, GIQAPSUN_HOURS).number == w.number);
@@ -353,6 +436,14 @@ static void try_record(struct giqapsun_case c, struct bytes *rest)
     try_accepted(reading.c, bytes, w.length, rest);
 }
 
+/* A price within the limits: any, one of so many about zero, or one of so many from zero up. */
+static int32_t price(struct bytes *bytes, int way, unsigned spread)
+{
+    if (way == 0)
+        return (int32_t)(((uint32_t)take16(bytes) << 16 | take16(bytes)) % 20000001u) - 10000000;
+    return within(bytes, 0, spread) - (way == 1 ? (int32_t)spread / 2 : 0);
+}
+
 /* A record within the limits. */
 static struct giqapsun_case within_limits(struct bytes *bytes)
 {
@@ -364,10 +455,10 @@ static struct giqapsun_case within_limits(struct bytes *bytes)
     c.rampdown = within(bytes, 1, take8(bytes) % 2 == 0 ? 400 : 4);
     c.minup = within(bytes, 1, 8);
     c.mindown = within(bytes, 1, 8);
-    c.variable = take8(bytes) % 2 == 0 ? within(bytes, 0, 100) : 15u * take16(bytes);
-    c.fixed = take8(bytes) % 2 == 0 ? within(bytes, 0, 100) : 1500u * take16(bytes);
-    c.startcost = take8(bytes) % 2 == 0 ? within(bytes, 0, 1000) : 1500u * take16(bytes);
-    c.stopcost = take8(bytes) % 2 == 0 ? within(bytes, 0, 1000) : 1500u * take16(bytes);
+    c.variable = take8(bytes) % 2 == 0 ? within(bytes, 0, 100) : 15 * take16(bytes);
+    c.fixed = take8(bytes) % 2 == 0 ? within(bytes, 0, 100) : 1500 * take16(bytes);
+    c.startcost = take8(bytes) % 2 == 0 ? within(bytes, 0, 1000) : 1500 * take16(bytes);
+    c.stopcost = take8(bytes) % 2 == 0 ? within(bytes, 0, 1000) : 1500 * take16(bytes);
     unsigned most = c.minimum < GIQAPSUN_STAGES ? c.minimum : GIQAPSUN_STAGES;
     c.rises = within(bytes, 1, most);
     c.falls = within(bytes, 1, most);
@@ -382,9 +473,10 @@ static struct giqapsun_case within_limits(struct bytes *bytes)
     c.elapsed = within(bytes, c.initial == 0 ? 1 : (unsigned)c.rises, take8(bytes) % 4 == 0 ? 10000 : 12);
     c.hours = take8(bytes) % 4 == 0 ? GIQAPSUN_HOURS : within(bytes, 1, GIQAPSUN_HOURS);
     int orders = take8(bytes) % 2 == 0;
-    unsigned highest = take8(bytes) % 2 == 0 ? 65535 : 200;
+    unsigned spread = take8(bytes) % 2 == 0 ? 65535 : 200;
+    int way = take8(bytes) % 3;
     for (size_t k = 0; k < c.hours; k++) {
-        c.prices[k] = within(bytes, 0, highest);
+        c.prices[k] = price(bytes, way, spread);
         uint16_t order = orders ? take8(bytes) % 16 : 0;
         c.orders[k] = (uint8_t)(order <= GIQAPSUN_OFF ? order : GIQAPSUN_FREE);
     }
@@ -401,9 +493,9 @@ int LLVMFuzzerTestOneInput(const uint8_t *data, size_t size)
         state = (state ^ data[i]) * 0x100000001b3u;
     state |= 1;
 
-    size_t end = size;
+    size_t end = size, last = size >= 20 && data[0] == 20 ? 16 : 12;
     if (size >= 16) {
-        size_t named = (size_t)data[12] + 256u * data[13] + data[14] + 256u * data[15];
+        size_t named = data[last] + 256u * data[last + 1] + data[last + 2] + 256u * data[last + 3];
         end = named < size ? named : size;
     }
     struct bytes rest = {data + end, size - end};

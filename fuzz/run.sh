@@ -1,8 +1,8 @@
 #!/usr/bin/env bash
 # fuzz/run.sh SECONDS: builds the fuzz target against libgiqapsun.a and the independent scheduler of tests/oracle, and
-# runs it for so long, beginning with the files of cases/. Installs clang and its fuzzer library from Debian's packages
-# if they are missing. The library is that in the folder GIQAPSUN_LIB_DIR, or else in target/staticlib. Inputs that
-# were kept, and one that made a difference, are in target/fuzz. Not in the gate.
+# runs it for so long, beginning with the files of cases/, those of the old form too. Installs clang and its fuzzer
+# library from Debian's packages if they are missing. The library is that in the folder GIQAPSUN_LIB_DIR, or else in
+# target/staticlib. Inputs that were kept, and one that made a difference, are in target/fuzz. Not in the gate.
 set -eu
 cd "$(dirname "$0")/.."
 if [[ ! ${1:-} =~ ^[1-9][0-9]*$ ]]; then
@@ -29,6 +29,9 @@ quietly fuzz-target clang -std=c99 -g -O1 -Wall -Wextra -Werror -fsanitize=fuzze
     -fno-sanitize-recover=all -Iinclude fuzz/fuzz.c "$GIQAPSUN_LIB_DIR/libgiqapsun.a" \
     "$folder/oracle/release/liboracle.a" -lpthread -ldl -lm -o "$folder/fuzz"
 cp cases/*.case "$folder/seeds/"
+for old in cases/old/*.case; do
+    cp "$old" "$folder/seeds/old-${old##*/}"
+done
 
 # a run starts from the seeds and from what earlier runs kept
 status=0
@@ -43,4 +46,5 @@ if [ $status -ne 0 ]; then
     exit 1
 fi
 executions=$(sed -n 's/^stat::number_of_executed_units: *//p' "$folder/log")
-echo "fuzz: $executions executions in $seconds seconds, no difference; $(grep '^pairs: ' "$folder/log")"
+echo "fuzz: $executions executions in $seconds seconds, no difference"
+grep -E '^(files|pairs): ' "$folder/log"
