@@ -3,7 +3,8 @@
  *   as a file of the old form or of form 2, up to the end that its pairs name, and the rest as outputs of a list to
  *   check;
  *   as a record, byte for byte, with counts and numbers of any size;
- *   as a record brought within the limits, so that every input is also searched.
+ *   as a record brought within the limits, so that every input is also searched, and with two fields at a limit or
+ *   past it.
  * An accepted case at prices that the old form can hold is read from a file of that form too.
  * Of each accepted case pairs of lists are compared too: its best list, the best one at the prices in reverse, near
  * misses and the input's own numbers, at its own prices and at prices that leave no margin, where lists earn the same.
@@ -327,13 +328,18 @@ static void try_old_form(struct giqapsun_case c, const uint8_t *bytes)
     HOLDS(read_in(old, n - 1).number == 1 && read_in(old, n + 1).number == 1);
 }
 
-/* Reads the file of form 2 with another form number, and as a file of four pairs: refused. */
+/* Reads the file of form 2 with another form number, with a unit of 34 bytes besides, and as a file of four pairs:
+   refused. */
 static void try_other_form(const uint8_t *bytes, size_t n, struct bytes *rest)
 {
     uint8_t other[GIQAPSUN_FILE_MOST];
     memcpy(other, bytes, n);
     put16(other + n - 2, take16(rest));
     HOLDS(read_in(other, n).number == (memcmp(other + n - 2, bytes + n - 2, 2) == 0 ? 0 : 12));
+    other[2] += 2;
+    other[4] += 2;
+    other[6] -= 2;
+    HOLDS(read_in(other, n).number == 2);
     other[0] = 16;
     HOLDS(read_in(other, n).number == 1);
 }
@@ -411,7 +417,8 @@ static void try_file(const uint8_t *bytes, size_t n, struct bytes *rest)
     try_accepted(reading.c, again, w.length, rest);
 }
 
-/* A record: all calls refuse it alike, or its file is read back as the record. */
+/* A record: all calls refuse it alike, or all take it, whatever it holds past its counts, and its file is read back as
+   the record. */
 static void try_record(struct giqapsun_case c, struct bytes *rest)
 {
     uint16_t list[GIQAPSUN_HOURS] = {0};
@@ -421,8 +428,14 @@ static void try_record(struct giqapsun_case c, struct bytes *rest)
         HOLDS(checked(c, list, GIQAPSUN_HOURS).number == w.number);
         HOLDS(chosen(c, list, GIQAPSUN_HOURS, list, 0).number == w.number);
         HOLDS(best_in(c, GIQAPSUN_WORK, GIQAPSUN_HOURS).number == w.number);
+        HOLDS(best_in(c, GIQAPSUN_WORK - 1, 0).number == w.number);
+        HOLDS(written_in(c, 0).number == w.number);
         return;
     }
+    HOLDS(checked(c, list, c.hours).number == 0);
+    HOLDS(chosen(c, list, c.hours, list, c.hours).number == 0);
+    HOLDS(best_in(c, GIQAPSUN_WORK - 1, GIQAPSUN_HOURS).number == 10);
+    HOLDS(written_in(c, GIQAPSUN_FILE_MOST).number == 0);
     uint8_t bytes[GIQAPSUN_FILE_MOST];
     memcpy(bytes, file + MARGIN, w.length);
     struct giqapsun_reading reading = read_in(bytes, w.length);
@@ -483,6 +496,28 @@ static struct giqapsun_case within_limits(struct bytes *bytes)
     return c;
 }
 
+/* Brings a field of a record to a limit or past it: a price of the day or past it, an order, a cost. */
+static void bring_to_limit(struct giqapsun_case *c, struct bytes *bytes)
+{
+    static const int32_t prices[6] = {-10000001, -10000000, 10000000, 10000001, INT32_MIN, INT32_MAX};
+    size_t k = within(bytes, 1, (unsigned)c->hours) - 1u;
+    int32_t *costs[4] = {&c->variable, &c->fixed, &c->startcost, &c->stopcost};
+    size_t cost = take8(bytes) % 4;
+    switch (take8(bytes) % 4) {
+    case 0:
+        c->prices[k] = prices[take8(bytes) % 6];
+        break;
+    case 1:
+        c->prices[GIQAPSUN_HOURS - 1] = prices[take8(bytes) % 6];
+        break;
+    case 2:
+        c->orders[k] = take8(bytes) % 2 == 0 ? 3 : 255;
+        break;
+    default:
+        *costs[cost] = take8(bytes) % 2 == 0 ? -1 : (cost == 0 ? 1000001 : 100000001);
+    }
+}
+
 int LLVMFuzzerTestOneInput(const uint8_t *data, size_t size)
 {
     static int begun;
@@ -512,6 +547,9 @@ int LLVMFuzzerTestOneInput(const uint8_t *data, size_t size)
     rest = (struct bytes){data, size};
     c = within_limits(&rest);
     HOLDS(written_in(c, GIQAPSUN_FILE_MOST).number == 0);
+    try_record(c, &rest);
+    bring_to_limit(&c, &rest);
+    bring_to_limit(&c, &rest);
     try_record(c, &rest);
     return 0;
 }
