@@ -1,4 +1,5 @@
-//! The programmes find the same lists as the library on random days, none of which takes more row steps than the most.
+//! The programmes find the same lists as the library on random days, half of them with prices below zero; none takes
+//! more row steps than the most.
 
 use crate::blocks::Blocks;
 use crate::queue::Queue;
@@ -18,6 +19,16 @@ impl Dice {
         self.0 ^= self.0 >> 7;
         self.0 ^= self.0 << 17;
         least + (self.0 % u64::from(most - least + 1)) as u16
+    }
+
+    /// A price: of so many from zero up, or about zero, or, once in a while, at a limit.
+    fn price(&mut self, spread: u16, below: bool) -> i32 {
+        let price = i32::from(self.roll(0, spread));
+        match self.roll(0, 19) {
+            0 if below => [-10_000_000, 10_000_000][usize::from(self.roll(0, 1))],
+            _ if below => 2 * price - i32::from(spread),
+            _ => price,
+        }
     }
 
     /// A trajectory that rises to the last of so many entries.
@@ -48,10 +59,10 @@ impl Dice {
             rampdown: self.roll(1, ramp),
             minup: self.roll(1, 8),
             mindown: self.roll(1, 8),
-            variable: u32::from(spread / 2),
-            fixed: u32::from(self.roll(0, spread)),
-            startcost: u32::from(self.roll(0, spread)),
-            stopcost: u32::from(self.roll(0, spread)),
+            variable: i32::from(spread / 2),
+            fixed: i32::from(self.roll(0, spread)),
+            startcost: i32::from(self.roll(0, spread)),
+            stopcost: i32::from(self.roll(0, spread)),
             initial: if on { self.roll(minimum, capacity) } else { 0 },
             elapsed: if on { self.roll(rises as u16, 12) } else { self.roll(1, 12) },
             rise: self.rise(rises, minimum),
@@ -65,8 +76,9 @@ impl Dice {
             case.fall[i] = fall[falls - 1 - i];
         }
         let orders = [1, 3, 30, 300][self.roll(0, 3) as usize];
+        let below = self.roll(0, 1) == 1;
         for k in 0..hours {
-            case.prices[k] = self.roll(0, spread);
+            case.prices[k] = self.price(spread, below);
             let order = self.roll(0, 10 * orders);
             case.orders[k] = if order == 1 || order == 2 { order as u8 } else { 0 };
         }

@@ -4,7 +4,7 @@ use giqapsun::boundary::{OFF, ON};
 use giqapsun::Case;
 
 /// Prices of the source's Table III, in mills.
-const SOURCE_PRICES: [u16; 24] = [
+const SOURCE_PRICES: [i32; 24] = [
     26950, 25817, 22209, 21219, 19668, 19800, 24167, 26950, 40700, 44110, 45177, 47025, 47773, 46200, 44033,
     44550, 46200, 48950, 48840, 45100, 43252, 44000, 44000, 25850,
 ];
@@ -36,15 +36,22 @@ fn source(hours: usize) -> Case {
     case
 }
 
-/// Capacity 400, minimum 1, both ramps as given, trajectories of one entry, minimum times 8, random prices.
-fn wide(ramp: u16, hours: usize) -> Case {
+/// Random numbers from 0 on, of so many, the same in every run.
+fn random(count: u64) -> impl Iterator<Item = i32> {
     let mut state = 0x9e37_79b9_7f4a_7c15u64;
-    let mut prices = [0; 48];
-    for price in prices.iter_mut().take(hours) {
+    std::iter::repeat_with(move || {
         state ^= state << 13;
         state ^= state >> 7;
         state ^= state << 17;
-        *price = (state % 60_000) as u16;
+        (state % count) as i32
+    })
+}
+
+/// Capacity 400, minimum 1, both ramps as given, trajectories of one entry, minimum times 8, random prices.
+fn wide(ramp: u16, hours: usize) -> Case {
+    let mut prices = [0; 48];
+    for (price, number) in prices.iter_mut().take(hours).zip(random(60_000)) {
+        *price = number;
     }
     Case {
         capacity: 400,
@@ -79,6 +86,20 @@ fn wave() -> Case {
     Case { minup: 3, mindown: 1, startcost: 1_000, stopcost: 1_000, ..case }
 }
 
+/// 400 outputs, ramps 100, and random prices of which about two in five are below zero; in every seventh hour the price
+/// is at a limit, the upper and the lower one in turn.
+fn below_zero() -> Case {
+    let mut case = wide(100, 48);
+    for ((k, price), number) in case.prices.iter_mut().enumerate().zip(random(100_000)) {
+        *price = match k % 14 {
+            6 => 10_000_000,
+            13 => -10_000_000,
+            _ => number - 40_000,
+        };
+    }
+    case
+}
+
 /// 400 outputs, ramps 400, on-line from the start, with orders that stop the unit as soon as it may stop and start it
 /// again in the next hour: the most row steps that a day can take.
 fn stops() -> Case {
@@ -97,6 +118,7 @@ pub fn all() -> Vec<(&'static str, Case)> {
         ("(c) 400 outputs, ramps 400, 48 h", wide(400, 48)),
         ("(d) 400 outputs, ramps 20, 48 h", wide(20, 48)),
         ("(m) 400 outputs, ramps 100, 48 h", wide(100, 48)),
+        ("(n) 400 outputs, prices below zero, 48 h", below_zero()),
         ("(g) 400 outputs, the most starts, 48 h", wave()),
         ("(w) 400 outputs, the most row steps, 48 h", stops()),
     ]
