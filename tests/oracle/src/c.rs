@@ -6,6 +6,9 @@ use crate::dp::best_list;
 use crate::pair;
 use std::slice;
 
+/// Bytes of the record, which goes by value.
+const _: () = assert!(std::mem::size_of::<Case>() == 328);
+
 /// What reading gives.
 #[repr(C)]
 pub struct Reading {

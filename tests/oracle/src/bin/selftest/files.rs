@@ -6,7 +6,7 @@ use oracle::answers;
 use oracle::best::{by_commitment, every_list};
 use oracle::case::Case;
 use oracle::damage::damaged_file;
-use oracle::days;
+use oracle::days::{self, Answer};
 use oracle::dp::best_list;
 use oracle::file::{self, Form};
 use oracle::known_files::{known_files, KnownFile, COUNT, NEW, OLD};
@@ -42,6 +42,41 @@ pub fn program_example(tally: &mut Tally) {
     tally.same("empty", answers::program_text(&[], best_list), "refused 1\n".to_string());
     tally.same("long", answers::program_text(&[0; 4097], best_list), "refused 1\n".to_string());
     tally.same("4,096", answers::program_text(&[0; 4096], best_list), "refused 1\n".to_string());
+}
+
+/// The known days and the source's day in both forms: one record, and one text of the program, which has the papers'
+/// profit.
+pub fn both_forms(tally: &mut Tally) {
+    for day in days::known_days() {
+        let text = in_both_forms(tally, day.name, &day.case);
+        match day.answer {
+            Answer::Found { profit, .. } => {
+                tally.same(day.name, first_line(&text), format!("profit {profit}"))
+            }
+            Answer::Refused(number) => tally.same(day.name, first_line(&text), format!("refused {number}")),
+            Answer::Breaks { .. } => {}
+        }
+    }
+    let text = in_both_forms(tally, "source's day", &days::source_day());
+    tally.same("source's day", first_line(&text), format!("profit {}", days::SOURCE_PROFIT));
+    in_both_forms(tally, "source's day twice", &days::source_two_days());
+}
+
+/// Reads a case from both its files, and gives the text that the program prints for either.
+fn in_both_forms(tally: &mut Tally, name: &str, case: &Case) -> String {
+    let old = file::old_file(case).expect("the prices are old ones");
+    let new = file::write(case).expect("the case is within the limits");
+    tally.same(name, file::read(&old), Ok(*case));
+    tally.same(name, file::read(&new), Ok(*case));
+    tally.same(name, new.len() - old.len(), 4 + 2 * case.t + 2);
+    let text = answers::program_text(&new, best_list);
+    tally.same(name, answers::program_text(&old, best_list), text.clone());
+    text
+}
+
+/// The first line of a text.
+fn first_line(text: &str) -> String {
+    text.lines().next().unwrap_or_default().to_string()
 }
 
 /// The examples of the refusal list, and of what request F-2 adds.

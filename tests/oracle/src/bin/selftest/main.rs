@@ -221,6 +221,7 @@ fn main() -> ExitCode {
     group("known prices", &mut total, plain(known_prices));
     group("program's example", &mut total, plain(files::program_example));
     group("source's day", &mut total, plain(source_day));
+    group("both forms", &mut total, plain(files::both_forms));
     group("refusal examples", &mut total, plain(files::refusal_examples));
     group("known files", &mut total, files::known);
     group("round trips", &mut total, files::round_trips);
