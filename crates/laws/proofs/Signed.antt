@@ -159,3 +159,21 @@ pub +-mono : (g : ℤ) {a b : ℤ} → a ≤ℤ b → (g +ℤ a) ≤ℤ (g +ℤ 
 
 pub +-cancel : (g a b : ℤ) → g +ℤ a ≡ g +ℤ b → a ≡ b
 +-cancel g a b h = omega (linear, parts-+ g a, parts-+ g b)
+
+-- multiples of a sum and of a difference
+pub multiple-+ : (a : ℤ) (m n : ℕ) → a *ℤ pos (m + n) ≡ a *ℤ pos m +ℤ a *ℤ pos n
+multiple-+ a m n =
+    parts-eq (a *ℤ pos (m + n)) (a *ℤ pos m +ℤ a *ℤ pos n)
+    (omega (arith, parts-* a (m + n), parts-* a m, parts-* a n, parts-+ (a *ℤ pos m) (a *ℤ pos n)))
+
+pub multiple-- : (a b : ℤ) (n : ℕ) → (a -ℤ b) *ℤ pos n ≡ a *ℤ pos n -ℤ b *ℤ pos n
+multiple-- a b n =
+    parts-eq ((a -ℤ b) *ℤ pos n) (a *ℤ pos n -ℤ b *ℤ pos n)
+    (omega (
+      arith,
+      parts-* (a -ℤ b) n,
+      parts-* a n,
+      parts-* b n,
+      parts-- (a *ℤ pos n) (b *ℤ pos n),
+      ap (λ x. x * n) (parts-- a b),
+    ))

@@ -3,7 +3,7 @@
 use mathlib.Core.Path.{_≡_, refl, sym, ap, _∙_, subst}
 use mathlib.Core.Bool.{Bool, true, false, cond}
 use mathlib.Core.List.{List}
-use Prim.Native.Nat.{ℕ, zero, suc, _+_, _-_, _/_, _≤_, _<_}
+use Prim.Native.Nat.{ℕ, zero, suc, _+_, _-_, _≤_, _<_}
 use native.Mathlib.Omega.{arith}
 use borrow.Author.Tests.{ltb-true, ltb-false}
 use lib.Dec.{ltb}
@@ -13,14 +13,17 @@ use Rattle.model.specs.declared.Case.{Case}
 use Rattle.model.specs.declared.Reading.{Reading}
 use Rattle.model.specs.declared.Outcome.the-variants.{Accepted, Refused}
 use Rattle.model.specs.Limits.{mostStages, mostHours}
-use Rattle.model.specs.Layout.{number, numberAt, offsetAt, lengthAt, sectionAt, listed, padded, noOutput}
-use Rattle.model.specs.Layout.{blank, zeroed, caseOf}
+use Rattle.model.specs.Forms.{Form, formNumbered, width}
+use Rattle.model.specs.Layout.{number, numberAt, offsetAt, lengthAt, listed, padded, noOutput, noMills, signed}
+use Rattle.model.specs.Layout.{blank, zeroed, sectionAt, fieldAt, formNumberAt, formOf, entriesAt, entryAt}
+use Rattle.model.specs.Layout.{caseIn, caseOf}
 use Rattle.model.specs.Refusals.{refusalOf}
 use Rattle.model.specs.Answers.{readingOf, readOf, admitOf, outcomeNumber}
 use Rattle.model.specs.Published.{cut, Zeroed, AllZero, Stored}
 use Rattle.model.specs.Promises.{ReadsNone}
 use Rattle.model.proofs.LimitsLaws.{Limits, limits-of-refusalOf}
 use Rattle.model.proofs.LayoutLaws.{length-padded, getD-padded-in, padded-same, padded-by}
+use Rattle.model.proofs.FormsLaws.{Known, four-sections, known}
 use Rattle.model.proofs.AcceptedLaws.{Whole, read-accepted}
 use Rattle.model.proofs.CodecLaws.{readingOf-accepted, readingOf-refused, admitOf-accepted, admitOf-refused}
 
@@ -66,43 +69,63 @@ module _ {X : Type 0} (d : X) (f : ℕ → X) (n size : ℕ) (room : n ≤ size)
 -- a record whose arrays are padded at its counts already
 zeroed-own : (c : Case) → padded noOutput (λ i. getD (c .rise) i noOutput) (c .rises) mostStages ≡ c .rise
     → padded noOutput (λ i. getD (c .fall) i noOutput) (c .falls) mostStages ≡ c .fall
-    → padded 0 (λ i. getD (c .prices) i 0) (c .hours) mostHours ≡ c .prices
+    → padded noMills (λ i. getD (c .prices) i noMills) (c .hours) mostHours ≡ c .prices
     → padded 0 (λ i. getD (c .orders) i 0) (c .hours) mostHours ≡ c .orders → zeroed c ≡ c
 unfolding zeroed
 zeroed-own c r f p o = rw (r, f, p, o)
 
 -- the record of a file has zeros past its counts
-module _ (file : List ℕ) (whole : Whole file) where
-  pub zeroed-caseOf : zeroed (caseOf file) ≡ caseOf file
-  unfolding caseOf
-  zeroed-caseOf =
-      zeroed-own (caseOf file)
-      (padded-twice noOutput _ (lengthAt file 1 / 2) mostStages (whole .rises-le))
-      (padded-twice noOutput _ (lengthAt file 2 / 2) mostStages (whole .falls-le))
-      (padded-twice 0 _ (lengthAt file 3 / 3) mostHours (whole .hours-le))
-      (padded-twice 0 _ (lengthAt file 3 / 3) mostHours (whole .hours-le))
+module _ (f : Form) (file : List ℕ) (known : Known f) (whole : Whole f file) where
+  rises-le : entriesAt f file 1 ≤ mostStages
+  rises-le = whole .entries-in 1 (omega (arith, four-sections known)) .1
 
-  caseOf-view : Zeroed (caseOf file) (caseOf file)
-  unfolding caseOf
-  caseOf-view =
+  falls-le : entriesAt f file 2 ≤ mostStages
+  falls-le = whole .entries-in 2 (omega (arith, four-sections known)) .1
+
+  hours-le : entriesAt f file 3 ≤ mostHours
+  hours-le = whole .entries-in 3 (omega (arith, four-sections known)) .1
+
+  pub zeroed-caseIn : zeroed (caseIn f file) ≡ caseIn f file
+  unfolding caseIn
+  zeroed-caseIn =
+      zeroed-own (caseIn f file)
+      (padded-twice noOutput _ (entriesAt f file 1) mostStages rises-le)
+      (padded-twice noOutput _ (entriesAt f file 2) mostStages falls-le)
+      (padded-twice noMills _ (entriesAt f file 3) mostHours hours-le)
+      (padded-twice 0 _ (entriesAt f file 3) mostHours hours-le)
+
+  caseIn-view : Zeroed (caseIn f file) (caseIn f file)
+  unfolding caseIn
+  caseIn-view =
       record {
         unit = refl;
-        rise = padded-own noOutput _ (lengthAt file 1 / 2) mostStages (whole .rises-le);
-        fall = padded-own noOutput _ (lengthAt file 2 / 2) mostStages (whole .falls-le);
-        prices = padded-own 0 _ (lengthAt file 3 / 3) mostHours (whole .hours-le);
-        orders = padded-own 0 _ (lengthAt file 3 / 3) mostHours (whole .hours-le);
+        costs = refl;
+        rise = padded-own noOutput _ (entriesAt f file 1) mostStages rises-le;
+        fall = padded-own noOutput _ (entriesAt f file 2) mostStages falls-le;
+        prices = padded-own noMills _ (entriesAt f file 3) mostHours hours-le;
+        orders = padded-own 0 _ (entriesAt f file 3) mostHours hours-le;
       }
+
+pub zeroed-caseOf : (file : List ℕ) → Whole (formOf file) file → zeroed (caseOf file) ≡ caseOf file
+unfolding caseOf
+zeroed-caseOf file whole = zeroed-caseIn (formOf file) file (known file) whole
+
+caseOf-view : (file : List ℕ) → Whole (formOf file) file → Zeroed (caseOf file) (caseOf file)
+unfolding caseOf
+caseOf-view file whole = caseIn-view (formOf file) file (known file) whole
 
 zeroed-view : (c : Case) → Limits c → Stored c → Zeroed c (zeroed c)
 unfolding zeroed
 zeroed-view c lim s =
     record {
       unit = refl;
+      costs = refl;
       rise =
           padded-cut noOutput (c .rise) (c .rises) mostStages (omega (arith, lim .rises-le, s .rise)) (lim .rises-le);
       fall =
           padded-cut noOutput (c .fall) (c .falls) mostStages (omega (arith, lim .falls-le, s .fall)) (lim .falls-le);
-      prices = padded-cut 0 (c .prices) (c .hours) mostHours (omega (arith, lim .hours-le, s .prices)) (lim .hours-le);
+      prices =
+          padded-cut noMills (c .prices) (c .hours) mostHours (omega (arith, lim .hours-le, s .prices)) (lim .hours-le);
       orders = padded-cut 0 (c .orders) (c .hours) mostHours (omega (arith, lim .hours-le, s .orders)) (lim .hours-le);
     }
 
@@ -116,15 +139,15 @@ zeros =
       rampdown = noOutput;
       minup = record { 0 = 0 };
       mindown = record { 0 = 0 };
-      variable = 0;
-      fixed = 0;
-      startcost = 0;
-      stopcost = 0;
+      variable = noMills;
+      fixed = noMills;
+      startcost = noMills;
+      stopcost = noMills;
       initial = noOutput;
       elapsed = record { 0 = 0 };
       rise = replicate mostStages noOutput;
       fall = replicate mostStages noOutput;
-      prices = replicate mostHours 0;
+      prices = replicate mostHours noMills;
       orders = replicate mostHours 0;
       rises = 0;
       falls = 0;
@@ -132,11 +155,14 @@ zeros =
     }
 
 pub blank-zeros : zeros ≡ blank
-unfolding blank caseOf sectionAt offsetAt lengthAt numberAt number padded listed
+unfolding blank caseOf caseIn formOf formNumbered formNumberAt entriesAt entryAt fieldAt sectionAt offsetAt lengthAt
+    numberAt number width padded listed signed
 blank-zeros = refl
 
 blank-view : AllZero blank
-blank-view = subst AllZero blank-zeros (record { unit = refl; rise = refl; fall = refl; prices = refl; orders = refl })
+blank-view =
+    subst AllZero blank-zeros
+    (record { unit = refl; costs = refl; rise = refl; fall = refl; prices = refl; orders = refl })
 
 -- ---- readings
 reads-none : {n : ℕ} {r : Reading} → record { outcome = Refused n; case = blank } ≡ r → ReadsNone n r

@@ -1,143 +1,189 @@
--- The refusal of a file is the first number whose published limits it does not keep, and a file that is read holds its
--- record. Two records that one file holds keep the same limits. Assumes nothing.
-use mathlib.Core.Path.{_≡_, refl, sym, _∙_, subst}
+-- The refusal of a file is the first number whose published limits it does not keep. Assumes nothing.
+use mathlib.Core.Path.{_≡_, refl, sym, ap, _∙_}
 use mathlib.Core.Logic.{_↔_, ⊎-elim}
-use mathlib.Core.Bool.{false, not}
-use mathlib.Core.List.{List, [], _∷_}
-use Prim.Native.Nat.{ℕ, zero, suc, _+_, _*_, _≤_}
-use native.Mathlib.Nat.{eq-or-lt-of-le}
+use mathlib.Core.Bool.{Bool, true, false, _||_}
+use mathlib.Core.List.{List}
+use Prim.Native.Nat.{ℕ, zero, suc, _+_, _*_, _-_, _<_}
 use native.Mathlib.Omega.{arith}
-use borrow.Author.Tests.{ltb-false, le-ltb, eqb-true, eq-eqb, not-false}
-use lib.Dec.{ltb, eqb, eqb·suc-zero}
+use borrow.Author.Tests.{eq-eqb, ne-eqb, le-leb}
+use lib.Dec.{T, eqb, eqb·suc-zero}
 use lib.ListN.{length}
-use Rattle.laws.proofs.Tests.{both, neither}
 use Rattle.model.specs.declared.Case.{Case}
-use Rattle.model.specs.Limits.{mostStages, mostHours, pairsLength, unitLength}
-use Rattle.model.specs.Layout.{offsetAt, lengthAt, endAt, caseOf}
-use Rattle.model.specs.Refusals.{refusal1, misfits, refusal2File, firstOf, tests, refusalOf}
+use Rattle.model.specs.Limits.{mostStages, mostHours}
+use Rattle.model.specs.Symbols.{every}
+use Rattle.model.specs.Forms.{oldForm, newest, unknown, width}
+use Rattle.model.specs.Layout.{numberAt, offsetAt, lengthAt, endAt, sectionAt, formNumberAt, formOf, caseIn, caseOf}
+use Rattle.model.specs.Refusals.{within, fits, refusal1, refusal2File, refusal12, firstOf, fileTests, refusalOf}
 use Rattle.model.specs.Answers.{readingOf, readOf, outcomeNumber}
-use Rattle.model.specs.Published.{Counts, Limited, limit2}
-use Rattle.model.specs.Published.{FirstRefused, word, Chained, Measured, Holds}
-use Rattle.model.specs.Published.{FileLimited, file1, file2, held}
-use Rattle.model.proofs.RefusalsLaws.{first-exactly, first-cond, first-later, first-same}
-use Rattle.model.proofs.RefusalsLaws.{misfits-false, misfits-times}
+use Rattle.model.specs.Published.{Counts, Limited, limit2, limit3, limit4, limit5, limit6, limit7, limit8}
+use Rattle.model.specs.Published.{limit13, FirstRefused, later, fileOrder}
+use Rattle.model.specs.Published.{word, Chained, Measured, Holds, FileLimited, file1, file2, file12, held}
+use Rattle.model.proofs.RefusalsLaws.{first-exactly, first-cond, first-rest, first-same, fits-times}
+use Rattle.model.proofs.LimitsLaws.{Between}
 use Rattle.model.proofs.LimitedLaws.{refusalOf-first}
-use Rattle.model.proofs.AcceptedLaws.{whole}
+use Rattle.model.proofs.LayoutLaws.{numberAt-part}
+use Rattle.model.proofs.FormsLaws.{four-sections, known, formOf-old, formOf-new}
+use Rattle.model.proofs.AcceptedLaws.{linked, whole, number-known}
 use Rattle.model.proofs.SameLimitsLaws.{limited-same}
-use Rattle.model.proofs.HoldsLaws.{numberAt-word, holds-caseOf}
+use Rattle.model.proofs.HoldsLaws.{numberAt-word, offset-word, length-word, end-word, chained-of, holds-caseOf}
 
--- ---- 1 and 2: the pairs
+-- the numbers that are a record's own in a file: those of a record but 2
+abbrev own : ℕ → Bool
+own n = within 3 8 n || eqb n 13
+
+limited-own : {c : Case} {n : ℕ} → Limited c n → T (eqb n 2 || own n)
+limited-own (limit2 x) = tt
+limited-own (limit3 x) = tt
+limited-own (limit4 x) = tt
+limited-own (limit5 x) = tt
+limited-own (limit6 x) = tt
+limited-own (limit7 x) = tt
+limited-own (limit8 x) = tt
+limited-own (limit13 x) = tt
+
+counts-of : {c : Case} → Limited c 2 → Counts c
+counts-of (limit2 n) = n
+
 module _ (s : List ℕ) where
-  offset-word : (i : ℕ) → offsetAt s i ≡ word s (4 * i)
-  unfolding offsetAt
-  offset-word i = numberAt-word s (4 * i)
+  -- ---- a chained file is not refused by 1
+  first-old : word s 0 ≡ 16 → formOf s ≡ oldForm
+  first-old e = formOf-old s (offset-word s 0 ∙ e)
 
-  length-word : (i : ℕ) → lengthAt s i ≡ word s (4 * i + 2)
-  unfolding lengthAt
-  length-word i = numberAt-word s (4 * i + 2)
+  first-new : word s 0 ≡ 20 → formOf s ≡ newest .1
+  first-new e = formOf-new s (λ z. omega (arith, offset-word s 0))
 
-  end-word : (i : ℕ) → endAt s i ≡ word s (4 * i) + word s (4 * i + 2)
-  unfolding endAt
-  end-word i = rw (offset-word i, length-word i)
-
-  -- a file that 1 does not refuse is chained, and the other way
-  chained : refusal1 s ≡ false → Chained s
-  unfolding refusal1
-  chained e =
-      let (a, r) = neither (ltb (length s) pairsLength) _ e in
-      let (o0, r0) = both (eqb (offsetAt s 0) pairsLength) _ (not-false _ r) in
-      let (o1, r1) = both (eqb (offsetAt s 1) (endAt s 0)) _ r0 in
-      let (o2, r2) = both (eqb (offsetAt s 2) (endAt s 1)) _ r1 in
-      let (o3, o4) = both (eqb (offsetAt s 3) (endAt s 2)) (eqb (endAt s 3) (length s)) r2 in
-      record {
-        pairs = ltb-false (length s) pairsLength a;
-        unit = sym (offset-word 0) ∙ eqb-true (offsetAt s 0) pairsLength o0;
-        rise = sym (offset-word 1) ∙ eqb-true (offsetAt s 1) (endAt s 0) o1 ∙ end-word 0;
-        fall = sym (offset-word 2) ∙ eqb-true (offsetAt s 2) (endAt s 1) o2 ∙ end-word 1;
-        hours = sym (offset-word 3) ∙ eqb-true (offsetAt s 3) (endAt s 2) o3 ∙ end-word 2;
-        end = sym (eqb-true (endAt s 3) (length s) o4) ∙ end-word 3;
-      }
+  begins : (i : ℕ) → word s (4 * suc i) ≡ word s (4 * i) + word s (4 * i + 2)
+      → eqb (offsetAt s (suc i)) (endAt s i) ≡ true
+  begins i e = eq-eqb (offsetAt s (suc i)) (endAt s i) (offset-word s (suc i) ∙ e ∙ sym (end-word s i))
 
   refusal1-chained : Chained s → refusal1 s ≡ false
-  unfolding refusal1
-  refusal1-chained c =
-      rw (
-        le-ltb (length s) pairsLength (c .pairs),
-        eq-eqb (offsetAt s 0) pairsLength (offset-word 0 ∙ c .unit),
-        eq-eqb (offsetAt s 1) (endAt s 0) (offset-word 1 ∙ c .rise ∙ sym (end-word 0)),
-        eq-eqb (offsetAt s 2) (endAt s 1) (offset-word 2 ∙ c .fall ∙ sym (end-word 1)),
-        eq-eqb (offsetAt s 3) (endAt s 2) (offset-word 3 ∙ c .hours ∙ sym (end-word 2)),
-        eq-eqb (endAt s 3) (length s) (end-word 3 ∙ sym (c .end)),
-      )
+  unfolding refusal1 every
+  refusal1-chained c = ⊎-elim as-old as-new (c .forms)
+    where
+      as-old : word s 0 ≡ 16 → refusal1 s ≡ false
+      as-old e =
+          rw (
+            first-old e,
+            le-leb 16 (length s) (omega (arith, c .pairs)),
+            eq-eqb (offsetAt s 0) 16 (offset-word s 0 ∙ e),
+            begins 0 (c .rise),
+            begins 1 (c .fall),
+            begins 2 (c .hours),
+            eq-eqb (endAt s 3) (length s) (end-word s 3 ∙ sym (c .old-end e)),
+          )
 
-  -- one that 2 does not refuse has the lengths of its record's counts, and one with those of some counts is not refused
-  measured : refusal2File s ≡ false → Measured s (caseOf s) × Counts (caseOf s)
-  unfolding refusal2File caseOf
-  measured e =
-      let (l0, r0) = neither (not (eqb (lengthAt s 0) unitLength)) _ e in
-      let (l1, r1) = neither (misfits 2 mostStages (lengthAt s 1)) _ r0 in
-      let (l2, l3) = neither (misfits 2 mostStages (lengthAt s 2)) (misfits 3 mostHours (lengthAt s 3)) r1 in
-      let (rises, rises-in) = misfits-false 2 mostStages (lengthAt s 1) l1 in
-      let (falls, falls-in) = misfits-false 2 mostStages (lengthAt s 2) l2 in
-      let (hours, hours-in) = misfits-false 3 mostHours (lengthAt s 3) l3 in (
-        record {
-          unit = sym (length-word 0) ∙ eqb-true (lengthAt s 0) unitLength (not-false _ l0);
-          rise = sym (rises ∙ length-word 1);
-          fall = sym (falls ∙ length-word 2);
-          hours = sym (hours ∙ length-word 3);
-        },
-        record { rises = rises-in; falls = falls-in; hours = hours-in },
-      )
+      as-new : word s 0 ≡ 20 → refusal1 s ≡ false
+      as-new e =
+          rw (
+            first-new e,
+            le-leb 20 (length s) (omega (arith, c .pairs)),
+            eq-eqb (offsetAt s 0) 20 (offset-word s 0 ∙ e),
+            begins 0 (c .rise),
+            begins 1 (c .fall),
+            begins 2 (c .hours),
+            begins 3 (c .form e),
+            eq-eqb (endAt s 4) (length s) (end-word s 4 ∙ sym (c .end e)),
+          )
 
-  refusal2-measured : (c : Case) → Measured s c → Counts c → refusal2File s ≡ false
-  unfolding refusal2File
-  refusal2-measured c m n =
-      rw (
-        length-word 0 ∙ m .unit,
-        length-word 1 ∙ m .rise,
-        length-word 2 ∙ m .fall,
-        length-word 3 ∙ m .hours,
-        misfits-times 2 mostStages (c .rises) (omega arith) (n .rises),
-        misfits-times 2 mostStages (c .falls) (omega arith) (n .falls),
-        misfits-times 3 mostHours (c .hours) (omega arith) (n .hours),
-      )
+  -- ---- nor by 2, if its lengths are those of counts within the limits
+  fits-of : (w most n i : ℕ) → 0 < w → lengthAt s i ≡ w * n → Between 1 most n → fits w most (lengthAt s i) ≡ true
+  fits-of w most n i h e b = ap (fits w most) e ∙ fits-times w most n h b
 
--- ---- what is read
-module _ (s : List ℕ) where
-  holds : refusal1 s ≡ false → refusal2File s ≡ false → Holds s (caseOf s)
-  holds e d = holds-caseOf s (whole s e d)
+  refusal2-measured : Chained s → (c : Case) → Measured s c → Counts c → refusal2File s ≡ false
+  unfolding refusal2File every width
+  refusal2-measured chained c m n = ⊎-elim as-old as-new (chained .forms)
+    where
+      unit : fits 32 1 (lengthAt s 0) ≡ true
+      unit = fits-of 32 1 1 0 (omega arith) (length-word s 0 ∙ m .unit) (omega arith)
 
-  -- the limits of a file that neither 1 nor 2 refuses are those of its record
+      rise : fits 2 mostStages (lengthAt s 1) ≡ true
+      rise = fits-of 2 mostStages (c .rises) 1 (omega arith) (length-word s 1 ∙ m .rise) (n .rises)
+
+      fall : fits 2 mostStages (lengthAt s 2) ≡ true
+      fall = fits-of 2 mostStages (c .falls) 2 (omega arith) (length-word s 2 ∙ m .fall) (n .falls)
+
+      as-old : word s 0 ≡ 16 → refusal2File s ≡ false
+      as-old e =
+          let hours = fits-of 3 mostHours (c .hours) 3 (omega arith) (length-word s 3 ∙ m .old-hours e) (n .hours) in
+          rw (first-old e, unit, rise, fall, hours)
+
+      as-new : word s 0 ≡ 20 → refusal2File s ≡ false
+      as-new e =
+          let hours = fits-of 5 mostHours (c .hours) 3 (omega arith) (length-word s 3 ∙ m .hours e) (n .hours) in
+          let form = fits-of 2 1 1 4 (omega arith) (length-word s 4 ∙ m .form e) (omega arith) in
+          rw (first-new e, unit, rise, fall, hours, form)
+
+  -- ---- what neither 1 nor 2 refuses
   module _ (e : refusal1 s ≡ false) (d : refusal2File s ≡ false) where
-    kept-by-record : {m : ℕ} → 2 ≤ m → FileLimited s m → Limited (caseOf s) m
-    kept-by-record x (file1 c) = absurd (omega arith)
-    kept-by-record x (file2 c k n) = limit2 (measured s d .1)
-    kept-by-record x (held m y c k l) = limited-same k (holds e d) (measured s d .1) l
+    holds : Holds s (caseOf s)
+    holds = holds-caseOf s (whole s e d)
 
-    kept-by-file : {m : ℕ} → 2 ≤ m → Limited (caseOf s) m → FileLimited s m
-    kept-by-file {m} x l =
-        let (k, n) = measured s d in
-        ⊎-elim (λ q. subst (FileLimited s) q (file2 (caseOf s) k n)) (λ y. held m y (caseOf s) (holds e d) l)
-        (eq-or-lt-of-le x)
+    counts : Counts (caseOf s)
+    unfolding caseOf caseIn
+    counts =
+        let w = whole s e d in
+        let four = four-sections (known s) in
+        record {
+          rises = w .entries-in 1 (omega arith);
+          falls = w .entries-in 2 (omega arith);
+          hours = w .entries-in 3 (omega arith);
+        }
+
+    -- the form number is the last two bytes
+    last-bytes : word s 0 ≡ 20 → formNumberAt s ≡ word s (length s - 2)
+    unfolding formNumberAt sectionAt
+    last-bytes first =
+        let c = holds .chained in
+        let m = holds .measured in
+        let at : offsetAt s 4 + 0 ≡ length s - 2 =
+        omega (arith, offset-word s 4, c .end first, m .form first) in
+        sym (numberAt-part s (offsetAt s 4) (lengthAt s 4) 0 2 (omega (arith, length-word s 4, m .form first)))
+        ∙ ap (λ x. numberAt s x 2) at ∙ numberAt-word s (length s - 2)
+
+    limited12 : refusal12 s ≡ false → FileLimited s 12
+    limited12 t =
+        file12 (λ first. sym (last-bytes first) ∙ number-known s (λ z. omega (arith, offset-word s 0)) t)
+
+    passes12 : FileLimited s 12 → refusal12 s ≡ false
+    unfolding refusal12 unknown
+    passes12 (file12 l) = ⊎-elim
+        (λ first. rw (eq-eqb (offsetAt s 0) 16 (offset-word s 0 ∙ first)))
+        (λ first. rw (
+          ne-eqb (offsetAt s 0) 16 (λ z. omega (arith, offset-word s 0)),
+          eq-eqb (formNumberAt s) 2 (last-bytes first ∙ l first),
+        ))
+        (holds .chained .forms)
+    passes12 (held n c k l) = absurd (limited-own l)
+
+    -- the limits of a record are those of the record that the file holds
+    kept-by-record : (m : ℕ) → T (own m) → FileLimited s m → Limited (caseOf s) m
+    kept-by-record m x (file1 c) = absurd x
+    kept-by-record m x (file2 c k n) = absurd x
+    kept-by-record m x (file12 l) = absurd x
+    kept-by-record m x (held n c k l) = limited-same k holds counts l
+
+    kept-by-file : (m : ℕ) → Limited (caseOf s) m → FileLimited s m
+    kept-by-file m l = held m (caseOf s) holds l
 
   passes1 : FileLimited s 1 → refusal1 s ≡ false
-  passes1 (file1 c) = refusal1-chained s c
-  passes1 (held m y c k l) = absurd (omega arith)
+  passes1 (file1 c) = refusal1-chained c
+  passes1 (held n c k l) = absurd (limited-own l)
 
-  passes2 : FileLimited s 2 → refusal2File s ≡ false
-  passes2 (file2 c m n) = refusal2-measured s c m n
-  passes2 (held m y c k l) = absurd (omega arith)
+  passes2 : refusal1 s ≡ false → FileLimited s 2 → refusal2File s ≡ false
+  passes2 e (file2 c m n) = refusal2-measured (chained-of s (linked s e)) c m n
+  passes2 e (held n c k l) = refusal2-measured (k .chained) c (k .measured) (counts-of l)
 
-  abbrev refused : ℕ
-  refused = firstOf ((1, refusal1 s) ∷ (2, refusal2File s) ∷ tests (caseOf s) [])
-
-  refused-first : FirstRefused (FileLimited s) 1 refused
-  unfolding firstOf refusalOf
+  refused-first : FirstRefused (FileLimited s) fileOrder (firstOf (fileTests s))
+  unfolding firstOf fileTests refusalOf
   refused-first =
-      first-cond (refusal1 s) (omega arith) passes1
-      (λ e. first-later (file1 (chained s e))
-      (first-cond (refusal2File s) (omega arith) passes2
-      (λ d. first-same (λ m x. (kept-by-file e d x, kept-by-record e d x)) (refusalOf-first (caseOf s)))))
+      first-cond (refusal1 s) passes1
+      (λ e. later (file1 (chained-of s (linked s e)))
+      (first-cond (refusal2File s) (passes2 e)
+      (λ d. later (file2 (caseOf s) (holds e d .measured) (counts e d))
+      (first-cond (refusal12 s) (passes12 e d)
+      (λ t. later (limited12 e d t)
+      (first-same own (λ m x. (kept-by-file e d m, kept-by-record e d m x)) (tt, (tt, (tt, (tt, (tt, (tt, (tt, tt)))))))
+      (first-rest (limit2 (counts e d)) (refusalOf-first (caseOf s)))))))))
 
 -- the number of a reading is that of its refusal
 outcomeNumber-readingOf : (n : ℕ) (c : Case) → outcomeNumber (readingOf n c .outcome) ≡ n
@@ -145,6 +191,8 @@ unfolding readingOf
 outcomeNumber-readingOf zero c = refl
 outcomeNumber-readingOf (suc n) c = rw (eqb·suc-zero n)
 
-pub file-limits : (s : List ℕ) (n : ℕ) → (outcomeNumber (readOf s .outcome) ≡ n) ↔ FirstRefused (FileLimited s) 1 n
+pub file-limits : (s : List ℕ) (n : ℕ)
+    → (outcomeNumber (readOf s .outcome) ≡ n) ↔ FirstRefused (FileLimited s) fileOrder n
 unfolding readOf
-file-limits s n = rw (outcomeNumber-readingOf (refused s) (caseOf s)) (first-exactly (refused-first s) n)
+file-limits s n =
+    rw (outcomeNumber-readingOf (firstOf (fileTests s)) (caseOf s)) (first-exactly (refused-first s) n)

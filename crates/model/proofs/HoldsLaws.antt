@@ -1,25 +1,29 @@
--- The numbers of a file by its bytes: those of its sections stand at their absolute offsets, so a file with whole
--- sections holds its record, and the bytes of a record within the limits hold that record. Assumes nothing.
-use mathlib.Core.Path.{_≡_, sym, ap, _∙_}
-use mathlib.Core.List.{List}
-use Prim.Native.Nat.{ℕ, suc, _+_, _*_, _/_, _≤_, _<_}
+-- The numbers of a file by its bytes: those of its sections stand at their offsets, so a whole file holds its record, and
+-- the file of a record within the limits holds that record. Assumes nothing.
+use mathlib.Core.Path.{_≡_, refl, sym, ap, _∙_, subst}
+use mathlib.Core.Logic.{inl, inr}
+use mathlib.Core.List.{List, [], _∷_}
+use Prim.Native.Nat.{ℕ, suc, _+_, _*_, _≤_, _<_}
+use native.Mathlib.Decide.{ℕ-discrete, decLt}
+use native.Mathlib.Nat.{mul-suc, mul-le-mul-left}
 use native.Mathlib.Numerals.{add-one}
 use native.Mathlib.Omega.{arith}
-use lib.ListN.{getD}
+use lib.IntN.{ℤ}
+use lib.ListN.{length, getD}
 use Rattle.model.specs.declared.Case.{Case}
 use Rattle.model.specs.declared.Output.{Output}
-use Rattle.model.specs.Limits.{mostStages, unitLength, frontLength, pairsLength}
-use Rattle.model.specs.Layout.{numberAt, offsetAt, lengthAt, endAt, padded, noOutput}
-use Rattle.model.specs.Layout.{fallFrom, hoursFrom}
-use Rattle.model.specs.Layout.{bytesOf, zeroed, sectionAt, caseOf}
+use Rattle.model.specs.Limits.{mostStages, mostHours, halfLongs}
+use Rattle.model.specs.Forms.{Form, oldForm, newest, width, entryLength}
+use Rattle.model.specs.Layout.{numberAt, offsetAt, lengthAt, endAt, padded, noOutput, noMills, signed, zeroed}
+use Rattle.model.specs.Layout.{bytesOf, sectionAt, fieldAt, formOf, entriesAt, entryAt, caseIn, caseOf}
 use Rattle.model.specs.Refusals.{refusalOf}
 use Rattle.model.specs.Answers.{readOf, outcomeNumber}
-use Rattle.model.specs.Published.{word, long, Chained, Measured, Holds, Stored}
-use Rattle.model.proofs.LimitsLaws.{limits-of-refusalOf}
+use Rattle.model.specs.Published.{word, long, Signed, above, below, Chained, Measured, Holds}
 use Rattle.model.proofs.LayoutLaws.{numberAt-suc, numberAt-part, getD-padded-in}
 use Rattle.model.proofs.NumbersLaws.{numberAt-one}
-use Rattle.model.proofs.RereadLaws.{caseOf-bytesOf, written-reads}
-use Rattle.model.proofs.AcceptedLaws.{Whole, read-accepted}
+use Rattle.model.proofs.FormsLaws.{pricedForm, formOf-old, formOf-new, signed-low, signed-high}
+use Rattle.model.proofs.RereadLaws.{new-case, new-reads}
+use Rattle.model.proofs.AcceptedLaws.{Linked, Whole, read-accepted}
 use Rattle.model.proofs.CutLaws.{zeroed-caseOf, readOf-accepted}
 
 -- ---- numbers by their bytes
@@ -32,7 +36,29 @@ numberAt-long s i =
     rw (e, ← numberAt-word s (suc (suc i)), add-one)
     (omega (arith, numberAt-suc s i 3, numberAt-suc s (suc i) 2))
 
--- ---- numbers of a section, at their places in the file
+pub offset-word : (s : List ℕ) (i : ℕ) → offsetAt s i ≡ word s (4 * i)
+unfolding offsetAt
+offset-word s i = numberAt-word s (4 * i)
+
+pub length-word : (s : List ℕ) (i : ℕ) → lengthAt s i ≡ word s (4 * i + 2)
+unfolding lengthAt
+length-word s i = numberAt-word s (4 * i + 2)
+
+pub end-word : (s : List ℕ) (i : ℕ) → endAt s i ≡ word s (4 * i) + word s (4 * i + 2)
+unfolding endAt
+end-word s i = rw (offset-word s i, length-word s i)
+
+-- a signed number is what its bits say
+signed-view : (n : ℕ) → Signed n (signed n)
+signed-view n = go (decLt n halfLongs)
+  where
+    go : Dec (n < halfLongs) → Signed n (signed n)
+    go (yes l) = subst (Signed n) (sym (signed-low n l)) (above l)
+    go (no l) = subst (Signed n) (sym (signed-high n (omega arith))) (below (omega arith))
+
+signed-of : {n m : ℕ} {z : ℤ} → n ≡ m → signed m ≡ z → Signed n z
+signed-of {n} e d = subst (Signed n) (ap signed e ∙ d) (signed-view n)
+
 -- two padded arrays that are the same, of one count, have the same entries below it
 padded-entry : {X : Type 0} (rest : X) (f g : ℕ → X) {n m size : ℕ} → padded rest f n size ≡ padded rest g m size
     → n ≡ m → n ≤ size → (i : ℕ) → i < m → f i ≡ g i
@@ -41,145 +67,254 @@ padded-entry rest f g {n} {m} {size} e same room i h =
     ∙ ap (λ l. getD l i rest) e
     ∙ getD-padded-in rest g m size rest i h (omega arith)
 
-module _ (file : List ℕ) where
-  section-numberAt : (j at k w : ℕ) → at ≡ offsetAt file j + k → k + w ≤ lengthAt file j
-      → numberAt file at w ≡ numberAt (sectionAt file j) k w
+-- ---- a record whose entries below its counts are those of the file, in a form with prices of w bytes
+module _ (w : ℕ) (tail : Form) (file : List ℕ) (whole : Whole (pricedForm w tail) file) (c : Case)
+    (e : caseIn (pricedForm w tail) file ≡ zeroed c) where
+  abbrev form : Form
+  form = pricedForm w tail
+
+  -- a number of section i, at its place in the file
+  section-number : (i k size : ℕ) → k + size ≤ lengthAt file i
+      → numberAt file (word file (4 * i) + k) size ≡ numberAt (sectionAt file i) k size
   unfolding sectionAt
-  section-numberAt j at k w e h =
-      ap (λ x. numberAt file x w) e ∙ numberAt-part file (offsetAt file j) (lengthAt file j) k w h
+  section-number i k size h =
+      ap (λ at. numberAt file (at + k) size) (sym (offset-word file i))
+      ∙ numberAt-part file (offsetAt file i) (lengthAt file i) k size h
 
-  section-word : (j at k : ℕ) → at ≡ offsetAt file j + k → k + 2 ≤ lengthAt file j
-      → word file at ≡ numberAt (sectionAt file j) k 2
-  section-word j at k e h = sym (numberAt-word file at) ∙ section-numberAt j at k 2 e h
+  section-word : (i k : ℕ) → k + 2 ≤ lengthAt file i
+      → word file (word file (4 * i) + k) ≡ numberAt (sectionAt file i) k 2
+  section-word i k h = sym (numberAt-word file (word file (4 * i) + k)) ∙ section-number i k 2 h
 
-  -- the entries of a trajectory of n outputs
-  stage-word : (j at n : ℕ) (l : List Output) → offsetAt file j ≡ at → 2 * (lengthAt file j / 2) ≡ lengthAt file j
-      → lengthAt file j / 2 ≤ mostStages → lengthAt file j / 2 ≡ n
-      → padded noOutput (λ i. record { 0 = numberAt (sectionAt file j) (2 * i) 2 }) (lengthAt file j / 2) mostStages
-      ≡ padded noOutput (λ i. getD l i noOutput) n mostStages
-      → (i : ℕ) → i < n → word file (at + 2 * i) ≡ getD l i noOutput .0
-  stage-word j at n l o even room same e i h =
-      section-word j (at + 2 * i) (2 * i) (omega arith) (omega arith)
-      ∙ ap (λ x. x .0) (padded-entry noOutput _ _ e same room i h)
+  -- the lengths
+  unit-length : lengthAt file 0 ≡ 32
+  unfolding width
+  unit-length = omega (arith, whole .whole-entries 0 (omega arith), whole .entries-in 0 (omega arith))
 
--- ---- a record whose entries below its counts are those of the file
-module _ (file : List ℕ) (whole : Whole file) where
-  chained : Chained file
-  unfolding offsetAt lengthAt endAt
-  chained =
-      let n = numberAt-word file in
-      record {
-        pairs = whole .long;
-        unit = sym (n 0) ∙ whole .offset0;
-        rise = omega (arith, n 0, n 2, n 4, whole .offset1);
-        fall = omega (arith, n 4, n 6, n 8, whole .offset2);
-        hours = omega (arith, n 8, n 10, n 12, whole .offset3);
-        end = omega (arith, n 12, n 14, whole .end);
-      }
+  rise-length : lengthAt file 1 ≡ 2 * c .rises
+  unfolding width caseIn zeroed
+  rise-length = sym (whole .whole-entries 1 (omega arith)) ∙ ap (λ d. 2 * d .rises) e
 
-  unit-word : (k : ℕ) → k + 2 ≤ unitLength → word file (pairsLength + k) ≡ numberAt (sectionAt file 0) k 2
-  unit-word k h =
-      section-word file 0 (pairsLength + k) k (omega (arith, whole .offset0)) (omega (arith, whole .length0))
+  fall-length : lengthAt file 2 ≡ 2 * c .falls
+  unfolding width caseIn zeroed
+  fall-length = sym (whole .whole-entries 2 (omega arith)) ∙ ap (λ d. 2 * d .falls) e
 
-  unit-long : (k : ℕ) → k + 4 ≤ unitLength → long file (pairsLength + k) ≡ numberAt (sectionAt file 0) k 4
-  unit-long k h =
-      sym (numberAt-long file (pairsLength + k))
-      ∙ section-numberAt file 0 (pairsLength + k) k 4 (omega (arith, whole .offset0)) (omega (arith, whole .length0))
+  hours-length : lengthAt file 3 ≡ entryLength form 3 * c .hours
+  unfolding caseIn zeroed
+  hours-length = sym (whole .whole-entries 3 (omega arith)) ∙ ap (λ d. entryLength form 3 * d .hours) e
 
-  module _ (c : Case) (e : caseOf file ≡ zeroed c) where
-    length-rise : lengthAt file 1 ≡ 2 * c .rises
-    unfolding caseOf zeroed
-    length-rise = sym (whole .length1) ∙ ap (λ d. 2 * d .rises) e
+  -- the unit
+  unit-word : (k : ℕ) → k + 2 ≤ 32 → word file (word file 0 + k) ≡ numberAt (sectionAt file 0) k 2
+  unit-word k h = section-word 0 k (omega (arith, unit-length))
 
-    length-fall : lengthAt file 2 ≡ 2 * c .falls
-    unfolding caseOf zeroed
-    length-fall = sym (whole .length2) ∙ ap (λ d. 2 * d .falls) e
+  unit-cost : (k : ℕ) {z : ℤ} → k + 4 ≤ 32 → signed (numberAt (sectionAt file 0) k 4) ≡ z
+      → Signed (long file (word file 0 + k)) z
+  unit-cost k h d =
+      signed-of (sym (numberAt-long file (word file 0 + k)) ∙ section-number 0 k 4 (omega (arith, unit-length))) d
 
-    length-hours : lengthAt file 3 ≡ 3 * c .hours
-    unfolding caseOf zeroed
-    length-hours = sym (whole .length3) ∙ ap (λ d. 3 * d .hours) e
+  -- the trajectories
+  stage-word : (i n : ℕ) (l : List Output) → lengthAt file i ≡ 2 * n → entriesAt form file i ≡ n
+      → entriesAt form file i ≤ mostStages
+      → padded noOutput (λ k. record { 0 = numberAt (sectionAt file i) (2 * k) 2 }) (entriesAt form file i) mostStages
+      ≡ padded noOutput (λ k. getD l k noOutput) n mostStages
+      → (k : ℕ) → k < n → word file (word file (4 * i) + 2 * k) ≡ getD l k noOutput .0
+  stage-word i n l long same room d k h =
+      section-word i (2 * k) (omega arith) ∙ ap (λ x. x .0) (padded-entry noOutput _ _ d same room k h)
 
-    measured : Measured file c
-    unfolding lengthAt
-    measured =
-        let n = numberAt-word file in
-        record {
-          unit = sym (n 2) ∙ whole .length0;
-          rise = sym (n 6) ∙ length-rise;
-          fall = sym (n 10) ∙ length-fall;
-          hours = sym (n 14) ∙ length-hours;
-        }
+  rise-word : (k : ℕ) → k < c .rises → word file (word file 4 + 2 * k) ≡ getD (c .rise) k noOutput .0
+  unfolding caseIn zeroed entryAt fieldAt width
+  rise-word =
+      stage-word 1 (c .rises) (c .rise) rise-length (ap (λ d. d .rises) e) (whole .entries-in 1 (omega arith) .1)
+      (ap (λ d. d .rise) e)
 
-    offset-rise : offsetAt file 1 ≡ frontLength
-    unfolding endAt
-    offset-rise = omega (arith, whole .offset0, whole .length0, whole .offset1)
+  fall-word : (k : ℕ) → k < c .falls → word file (word file 8 + 2 * k) ≡ getD (c .fall) k noOutput .0
+  unfolding caseIn zeroed entryAt fieldAt width
+  fall-word =
+      stage-word 2 (c .falls) (c .fall) fall-length (ap (λ d. d .falls) e) (whole .entries-in 2 (omega arith) .1)
+      (ap (λ d. d .fall) e)
 
-    offset-fall : offsetAt file 2 ≡ fallFrom c
-    unfolding endAt
-    offset-fall = omega (arith, offset-rise, length-rise, whole .offset2)
+  -- the hours
+  hour-room : (k : ℕ) → k < c .hours → entryLength form 3 * k + entryLength form 3 ≤ lengthAt file 3
+  hour-room k h =
+      let n = entryLength form 3 in
+      omega (arith, hours-length, mul-le-mul-left n h, mul-suc n k)
 
-    offset-hours : offsetAt file 3 ≡ hoursFrom c
-    unfolding endAt
-    offset-hours = omega (arith, offset-fall, length-fall, whole .offset3)
+  price-number : (k : ℕ) → k < c .hours
+      → Signed (numberAt file (word file 12 + entryLength form 3 * k) w) (getD (c .prices) k noMills .0)
+  unfolding caseIn zeroed entryAt fieldAt width
+  price-number k h =
+      signed-of (section-number 3 (entryLength form 3 * k) w (omega (arith, hour-room k h)))
+      (ap (λ m. m .0)
+      (padded-entry noMills _ _ (ap (λ d. d .prices) e) (ap (λ d. d .hours) e) (whole .entries-in 3 (omega arith) .1) k h))
 
-    rise-word : (i : ℕ) → i < c .rises → word file (frontLength + 2 * i) ≡ getD (c .rise) i noOutput .0
-    unfolding caseOf zeroed
-    rise-word =
-        stage-word file 1 frontLength (c .rises) (c .rise) offset-rise (whole .length1) (whole .rises-le)
-        (ap (λ d. d .rises) e) (ap (λ d. d .rise) e)
+  order-byte : (k : ℕ) → k < c .hours
+      → getD file (word file 12 + (entryLength form 3 * k + w)) 0 ≡ getD (c .orders) k 0
+  unfolding caseIn zeroed entryAt fieldAt width
+  order-byte k h =
+      let at = entryLength form 3 * k + w in
+      sym (numberAt-one file (word file 12 + at))
+      ∙ section-number 3 at 1 (omega (arith, hour-room k h))
+      ∙ padded-entry 0 _ _ (ap (λ d. d .orders) e) (ap (λ d. d .hours) e) (whole .entries-in 3 (omega arith) .1) k h
 
-    fall-word : (i : ℕ) → i < c .falls → word file (fallFrom c + 2 * i) ≡ getD (c .fall) i noOutput .0
-    unfolding caseOf zeroed
-    fall-word =
-        stage-word file 2 (fallFrom c) (c .falls) (c .fall) offset-fall (whole .length2) (whole .falls-le)
-        (ap (λ d. d .falls) e) (ap (λ d. d .fall) e)
-
-    price-word : (i : ℕ) → i < c .hours → word file (hoursFrom c + 3 * i) ≡ getD (c .prices) i 0
-    unfolding caseOf zeroed
-    price-word i h =
-        section-word file 3 _ (3 * i) (omega (arith, offset-hours)) (omega (arith, length-hours))
-        ∙ padded-entry 0 _ _ (ap (λ d. d .prices) e) (ap (λ d. d .hours) e) (whole .hours-le) i h
-
-    order-byte : (i : ℕ) → i < c .hours
-        → getD file (hoursFrom c + 3 * i + 2) 0 ≡ getD (c .orders) i 0
-    unfolding caseOf zeroed
-    order-byte i h =
-        let at = hoursFrom c + 3 * i + 2 in
-        sym (numberAt-one file at)
-        ∙ section-numberAt file 3 at (3 * i + 2) 1 (omega (arith, offset-hours)) (omega (arith, length-hours))
-        ∙ padded-entry 0 _ _ (ap (λ d. d .orders) e) (ap (λ d. d .hours) e) (whole .hours-le) i h
-
-    holds-of-caseOf : Holds file c
-    unfolding caseOf zeroed
-    holds-of-caseOf =
+  -- what both forms hold alike
+  module _ (chained : Chained file) (measured : Measured file c)
+      (old-prices : word file 0 ≡ 16 → (i : ℕ) → i < c .hours
+      → Signed (word file (word file 12 + 3 * i)) (getD (c .prices) i noMills .0))
+      (old-orders : word file 0 ≡ 16 → (i : ℕ) → i < c .hours
+      → getD file (word file 12 + 3 * i + 2) 0 ≡ getD (c .orders) i 0)
+      (prices : word file 0 ≡ 20 → (i : ℕ) → i < c .hours
+      → Signed (long file (word file 12 + 5 * i)) (getD (c .prices) i noMills .0))
+      (orders : word file 0 ≡ 20 → (i : ℕ) → i < c .hours
+      → getD file (word file 12 + 5 * i + 4) 0 ≡ getD (c .orders) i 0) where
+    holds-unit : Holds file c
+    unfolding caseIn zeroed entryAt fieldAt width
+    holds-unit =
         record {
           chained = chained;
           measured = measured;
-          capacity = unit-word 0 (omega arith) ∙ ap (λ d. d .capacity .0) e;
+          capacity = ap (word file) (let z : word file 0 ≡ word file 0 + 0 = omega arith in z)
+              ∙ unit-word 0 (omega arith) ∙ ap (λ d. d .capacity .0) e;
           minimum = unit-word 2 (omega arith) ∙ ap (λ d. d .minimum .0) e;
           rampup = unit-word 4 (omega arith) ∙ ap (λ d. d .rampup .0) e;
           rampdown = unit-word 6 (omega arith) ∙ ap (λ d. d .rampdown .0) e;
           minup = unit-word 8 (omega arith) ∙ ap (λ d. d .minup .0) e;
           mindown = unit-word 10 (omega arith) ∙ ap (λ d. d .mindown .0) e;
-          variable = unit-long 12 (omega arith) ∙ ap (λ d. d .variable) e;
-          fixed = unit-long 16 (omega arith) ∙ ap (λ d. d .fixed) e;
-          startcost = unit-long 20 (omega arith) ∙ ap (λ d. d .startcost) e;
-          stopcost = unit-long 24 (omega arith) ∙ ap (λ d. d .stopcost) e;
+          variable = unit-cost 12 (omega arith) (ap (λ d. d .variable .0) e);
+          fixed = unit-cost 16 (omega arith) (ap (λ d. d .fixed .0) e);
+          startcost = unit-cost 20 (omega arith) (ap (λ d. d .startcost .0) e);
+          stopcost = unit-cost 24 (omega arith) (ap (λ d. d .stopcost .0) e);
           initial = unit-word 28 (omega arith) ∙ ap (λ d. d .initial .0) e;
           elapsed = unit-word 30 (omega arith) ∙ ap (λ d. d .elapsed .0) e;
           rise = rise-word;
           fall = fall-word;
-          prices = price-word;
-          orders = order-byte;
+          old-prices = old-prices;
+          old-orders = old-orders;
+          prices = prices;
+          orders = orders;
         }
 
-pub holds-bytesOf : (c : Case) → refusalOf c ≡ 0 → Stored c → Holds (bytesOf c) c
-holds-bytesOf c e s =
-    let lim = limits-of-refusalOf c e in
-    let accepted = ap (λ r. r .outcome) (written-reads c lim (s .price-lt) e) in
-    holds-of-caseOf (bytesOf c) (read-accepted (bytesOf c) accepted .whole-file) c (caseOf-bytesOf c lim (s .price-lt))
+-- ---- the old form
+module _ (file : List ℕ) (l : Linked oldForm file) where
+  old-first : word file 0 ≡ 16
+  old-first = sym (offset-word file 0) ∙ l .first
 
-pub holds-caseOf : (file : List ℕ) → Whole file → Holds file (caseOf file)
+  old-chained : Chained file
+  old-chained =
+      record {
+        forms = inl old-first;
+        pairs = omega (arith, old-first, l .long);
+        rise = sym (offset-word file 1) ∙ l .chain 0 (omega arith) ∙ end-word file 0;
+        fall = sym (offset-word file 2) ∙ l .chain 1 (omega arith) ∙ end-word file 1;
+        hours = sym (offset-word file 3) ∙ l .chain 2 (omega arith) ∙ end-word file 2;
+        old-end = λ z. sym (l .end) ∙ end-word file 3;
+        form = λ z. absurd (omega (arith, old-first));
+        end = λ z. absurd (omega (arith, old-first));
+      }
+
+module _ (file : List ℕ) (whole : Whole oldForm file) (c : Case) (e : caseIn oldForm file ≡ zeroed c) where
+  abbrev sixteen : word file 0 ≡ 16
+  sixteen = old-first file (whole .linked)
+
+  old-measured : Measured file c
+  unfolding width
+  old-measured =
+      record {
+        unit = sym (length-word file 0) ∙ unit-length 2 [] file whole c e;
+        rise = sym (length-word file 1) ∙ rise-length 2 [] file whole c e;
+        fall = sym (length-word file 2) ∙ fall-length 2 [] file whole c e;
+        old-hours = λ z. sym (length-word file 3) ∙ hours-length 2 [] file whole c e;
+        hours = λ z. absurd (omega (arith, sixteen));
+        form = λ z. absurd (omega (arith, sixteen));
+      }
+
+  old-holds : Holds file c
+  unfolding width
+  old-holds =
+      holds-unit 2 [] file whole c e (old-chained file (whole .linked)) old-measured
+      (λ z i h. subst (λ n. Signed n (getD (c .prices) i noMills .0)) (numberAt-word file (word file 12 + 3 * i))
+      (price-number 2 [] file whole c e i h))
+      (λ z i h.
+      ap (λ at. getD file at 0) (let q : word file 12 + 3 * i + 2 ≡ word file 12 + (3 * i + 2) = omega arith in q)
+      ∙ order-byte 2 [] file whole c e i h)
+      (λ z. absurd (omega (arith, sixteen))) (λ z. absurd (omega (arith, sixteen)))
+
+-- ---- form 2
+module _ (file : List ℕ) (l : Linked (newest .1) file) where
+  new-first : word file 0 ≡ 20
+  new-first = sym (offset-word file 0) ∙ l .first
+
+  new-chained : Chained file
+  new-chained =
+      record {
+        forms = inr new-first;
+        pairs = omega (arith, new-first, l .long);
+        rise = sym (offset-word file 1) ∙ l .chain 0 (omega arith) ∙ end-word file 0;
+        fall = sym (offset-word file 2) ∙ l .chain 1 (omega arith) ∙ end-word file 1;
+        hours = sym (offset-word file 3) ∙ l .chain 2 (omega arith) ∙ end-word file 2;
+        old-end = λ z. absurd (omega (arith, new-first));
+        form = λ z. sym (offset-word file 4) ∙ l .chain 3 (omega arith) ∙ end-word file 3;
+        end = λ z. sym (l .end) ∙ end-word file 4;
+      }
+
+module _ (file : List ℕ) (whole : Whole (newest .1) file) (c : Case) (e : caseIn (newest .1) file ≡ zeroed c) where
+  abbrev tail : Form
+  tail = (2 ∷ []) ∷ []
+
+  abbrev twenty : word file 0 ≡ 20
+  twenty = new-first file (whole .linked)
+
+  form-length : lengthAt file 4 ≡ 2
+  unfolding width
+  form-length = omega (arith, whole .whole-entries 4 (omega arith), whole .entries-in 4 (omega arith))
+
+  new-measured : Measured file c
+  unfolding width
+  new-measured =
+      record {
+        unit = sym (length-word file 0) ∙ unit-length 4 tail file whole c e;
+        rise = sym (length-word file 1) ∙ rise-length 4 tail file whole c e;
+        fall = sym (length-word file 2) ∙ fall-length 4 tail file whole c e;
+        old-hours = λ z. absurd (omega (arith, twenty));
+        hours = λ z. sym (length-word file 3) ∙ hours-length 4 tail file whole c e;
+        form = λ z. sym (length-word file 4) ∙ form-length;
+      }
+
+  new-holds : Holds file c
+  unfolding width
+  new-holds =
+      holds-unit 4 tail file whole c e (new-chained file (whole .linked)) new-measured
+      (λ z. absurd (omega (arith, twenty))) (λ z. absurd (omega (arith, twenty)))
+      (λ z i h. subst (λ n. Signed n (getD (c .prices) i noMills .0)) (numberAt-long file (word file 12 + 5 * i))
+      (price-number 4 tail file whole c e i h))
+      (λ z i h.
+      ap (λ at. getD file at 0) (let q : word file 12 + 5 * i + 4 ≡ word file 12 + (5 * i + 4) = omega arith in q)
+      ∙ order-byte 4 tail file whole c e i h)
+
+-- ---- either form
+pub chained-of : (file : List ℕ) → Linked (formOf file) file → Chained file
+chained-of file l = go (ℕ-discrete (offsetAt file 0) 16)
+  where
+    go : Dec (offsetAt file 0 ≡ 16) → Chained file
+    go (yes d) = old-chained file (subst (λ f. Linked f file) (formOf-old file d) l)
+    go (no d) = new-chained file (subst (λ f. Linked f file) (formOf-new file d) l)
+
+holds-of-caseOf : (file : List ℕ) → Whole (formOf file) file → (c : Case) → caseOf file ≡ zeroed c → Holds file c
+unfolding caseOf
+holds-of-caseOf file whole c e = go (ℕ-discrete (offsetAt file 0) 16)
+  where
+    go : Dec (offsetAt file 0 ≡ 16) → Holds file c
+    go (yes d) =
+        let is = formOf-old file d in
+        old-holds file (subst (λ f. Whole f file) is whole) c (rw is at e)
+    go (no d) =
+        let is = formOf-new file d in
+        new-holds file (subst (λ f. Whole f file) is whole) c (rw is at e)
+
+pub holds-bytesOf : (c : Case) → refusalOf c ≡ 0 → Holds (bytesOf c) c
+holds-bytesOf c e =
+    holds-of-caseOf (bytesOf c) (read-accepted (bytesOf c) (ap (λ r. r .outcome) (new-reads c e)) .whole-file) c
+    (new-case c e)
+
+pub holds-caseOf : (file : List ℕ) → Whole (formOf file) file → Holds file (caseOf file)
 holds-caseOf file whole = holds-of-caseOf file whole (caseOf file) (sym (zeroed-caseOf file whole))
 
 pub read-holds : (s : List ℕ) → outcomeNumber (readOf s .outcome) ≡ 0 → Holds s (readOf s .case)

@@ -1,5 +1,5 @@
--- The refusal of a record is the first number whose published limits it does not keep: each of the tests 2 to 8 is
--- false exactly where the limits of its number are kept. Assumes nothing.
+-- The refusal of a record is the first number whose published limits it does not keep: each of the tests 2 to 8 and 13
+-- is false exactly where the limits of its number are kept. Assumes nothing.
 use mathlib.Core.Path.{_≡_, refl}
 use mathlib.Core.Logic.{_↔_}
 use mathlib.Core.Bool.{Bool, true, false}
@@ -8,18 +8,19 @@ use native.Mathlib.Numerals.{add-one}
 use native.Mathlib.Omega.{arith}
 use borrow.Author.Tests.{ltb-true, ltb-false, lt-ltb, le-ltb, le-leb, eq-eqb, ne-eqb}
 use lib.Dec.{leb, ltb}
+use lib.IntN.{pos, negℤ}
 use Rattle.model.specs.declared.Case.{Case}
 use Rattle.model.specs.Limits.{mostStages, mostHours, mostOutput, mostTime, mostElapsed, mostVariable}
-use Rattle.model.specs.Limits.{mostCharge, mostOrder}
+use Rattle.model.specs.Limits.{mostCharge, mostPrice, mostOrder}
 use Rattle.model.specs.Symbols.{high, low, RU, RD, upTime, downTime, UD, DD, PU, PD, last, order}
-use Rattle.model.specs.Symbols.{F, A, B, C, p0, h}
-use Rattle.model.specs.Refusals.{refusal2, refusal3, refusal4, refusal5, climbs, descends, refusal6, refusal7}
-use Rattle.model.specs.Refusals.{refusal8, firstOf, tests, refusalOf}
+use Rattle.model.specs.Symbols.{F, A, B, C, price, p0, h}
+use Rattle.model.specs.Refusals.{amounts, refusal2, refusal3, refusal4, refusal5, climbs, descends, refusal6}
+use Rattle.model.specs.Refusals.{refusal7, refusal8, refusal13, firstOf, tests, refusalOf}
 use Rattle.model.specs.Published.{Trajectories, Limited, limit2, limit3, limit4, limit5, limit6, limit7, limit8}
-use Rattle.model.specs.Published.{FirstRefused}
-use Rattle.model.proofs.LimitsLaws.{Climbs, Descends, between-within, all-every, counts, outputs, rates, money}
-use Rattle.model.proofs.LimitsLaws.{trajectories, opening, orders}
-use Rattle.model.proofs.RefusalsLaws.{first-exactly, first-test, first-none}
+use Rattle.model.specs.Published.{limit13, FirstRefused, none, recordOrder}
+use Rattle.model.proofs.LimitsLaws.{Climbs, Descends, between-within, amounts-within, all-every, counts, outputs}
+use Rattle.model.proofs.LimitsLaws.{rates, money, trajectories, opening, orders, prices}
+use Rattle.model.proofs.RefusalsLaws.{first-exactly, first-test}
 
 module _ (c : Case) where
   -- ---- a record that keeps the limits of a number passes its test
@@ -54,10 +55,10 @@ module _ (c : Case) where
   unfolding refusal5
   passes5 (limit5 m) =
       rw (
-        le-leb (F c) mostVariable (m .variable),
-        le-leb (A c) mostCharge (m .fixed),
-        le-leb (B c) mostCharge (m .startcost),
-        le-leb (C c) mostCharge (m .stopcost),
+        amounts-within (pos 0) (pos mostVariable) (F c) (m .variable),
+        amounts-within (pos 0) (pos mostCharge) (A c) (m .fixed),
+        amounts-within (pos 0) (pos mostCharge) (B c) (m .startcost),
+        amounts-within (pos 0) (pos mostCharge) (C c) (m .stopcost),
       )
 
   climbed : Trajectories c → climbs c ≡ true
@@ -104,6 +105,12 @@ module _ (c : Case) where
   passes8 (limit8 o) =
       rw (all-every (λ k. leb (order c k) mostOrder) (last c) (λ k a b. le-leb (order c k) mostOrder (o .orders k a b)))
 
+  passes13 : Limited c 13 → refusal13 c ≡ false
+  unfolding refusal13
+  passes13 (limit13 p) =
+      rw (all-every (λ k. amounts (negℤ (pos mostPrice)) (pos mostPrice) (price c k)) (last c)
+      (λ k a b. amounts-within (negℤ (pos mostPrice)) (pos mostPrice) (price c k) (p .prices k a b)))
+
   -- ---- and the other way
   limited2 : (refusal2 c ≡ false) ↔ Limited c 2
   limited2 = (λ e. let (r, f, h) = counts c e in limit2 (record { rises = r; falls = f; hours = h }), passes2)
@@ -149,17 +156,20 @@ module _ (c : Case) where
   limited8 : (refusal8 c ≡ false) ↔ Limited c 8
   limited8 = (λ e. limit8 (record { orders = orders c e }), passes8)
 
+  limited13 : (refusal13 c ≡ false) ↔ Limited c 13
+  limited13 = (λ e. limit13 (record { prices = prices c e }), passes13)
+
   -- ---- the tests in turn
-  pub refusalOf-first : FirstRefused (Limited c) 2 (refusalOf c)
+  pub refusalOf-first : FirstRefused (Limited c) recordOrder (refusalOf c)
   unfolding firstOf tests refusalOf
   refusalOf-first =
-      first-test (refusal2 c) (omega arith) limited2
-      (first-test (refusal3 c) (omega arith) limited3
-      (first-test (refusal4 c) (omega arith) limited4
-      (first-test (refusal5 c) (omega arith) limited5
-      (first-test (refusal6 c) (omega arith) limited6
-      (first-test (refusal7 c) (omega arith) limited7
-      (first-test (refusal8 c) (omega arith) limited8 first-none))))))
+      first-test (refusal2 c) limited2
+      (first-test (refusal3 c) limited3
+      (first-test (refusal4 c) limited4
+      (first-test (refusal5 c) limited5
+      (first-test (refusal6 c) limited6
+      (first-test (refusal7 c) limited7
+      (first-test (refusal8 c) limited8 (first-test (refusal13 c) limited13 none)))))))
 
-pub limits : (c : Case) (n : ℕ) → (refusalOf c ≡ n) ↔ FirstRefused (Limited c) 2 n
+pub limits : (c : Case) (n : ℕ) → (refusalOf c ≡ n) ↔ FirstRefused (Limited c) recordOrder n
 limits c = first-exactly (refusalOf-first c)

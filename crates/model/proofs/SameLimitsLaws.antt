@@ -1,13 +1,23 @@
 -- Two records that one file holds keep the same limits. Assumes nothing.
 use mathlib.Core.Path.{_≡_, refl, sym, ap, _∙_}
-use Prim.Native.Nat.{ℕ, zero, suc, _+_, _*_, _≤_}
+use mathlib.Core.Logic.{⊎-elim}
+use Prim.Native.Nat.{ℕ, zero, suc, _+_, _≤_, _<_}
 use native.Mathlib.Omega.{arith}
 use mathlib.Core.List.{List}
+use lib.IntN.{ℤ}
+use lib.ListN.{getD}
 use Rattle.model.specs.declared.Case.{Case}
-use Rattle.model.specs.Symbols.{stage, hourly}
-use Rattle.model.specs.Published.{Counts, Trajectories, Opening, Orders, Limited, limit2, limit3, limit4, limit5}
-use Rattle.model.specs.Published.{limit6, limit7, limit8, word, Holds}
-use Rattle.model.specs.Limits.{frontLength}
+use Rattle.model.specs.Symbols.{stage, hourly, priced}
+use Rattle.model.specs.Layout.{noMills}
+use Rattle.model.specs.Published.{Counts, Costs, Trajectories, Opening, Orders, Prices, Limited, limit2, limit3}
+use Rattle.model.specs.Published.{limit4, limit5, limit6, limit7, limit8, limit13, Signed, above, below, Holds}
+
+-- bits have one signed number
+pub signed-unique : {n : ℕ} {a b : ℤ} → Signed n a → Signed n b → a ≡ b
+signed-unique (above h) (above k) = refl
+signed-unique (above h) (below k) = absurd (omega arith)
+signed-unique (below h) (above k) = absurd (omega arith)
+signed-unique (below h) (below k) = refl
 
 module _ {s : List ℕ} {c d : Case} (h : Holds s c) (k : Holds s d) (counts : Counts d) where
   rises-same : d .rises ≡ c .rises
@@ -17,7 +27,9 @@ module _ {s : List ℕ} {c d : Case} (h : Holds s c) (k : Holds s d) (counts : C
   falls-same = omega (arith, h .measured .fall, k .measured .fall)
 
   hours-same : d .hours ≡ c .hours
-  hours-same = omega (arith, h .measured .hours, k .measured .hours)
+  hours-same =
+      ⊎-elim (λ z. omega (arith, h .measured .old-hours z, k .measured .old-hours z))
+      (λ z. omega (arith, h .measured .hours z, k .measured .hours z)) (h .chained .forms)
 
   rise-same : (i : ℕ) → i ≤ d .rises → stage (d .rise) i ≡ stage (c .rise) i
   unfolding stage
@@ -27,17 +39,23 @@ module _ {s : List ℕ} {c d : Case} (h : Holds s c) (k : Holds s d) (counts : C
   fall-same : (i : ℕ) → i ≤ d .falls → stage (d .fall) i ≡ stage (c .fall) i
   unfolding stage
   fall-same zero l = refl
-  fall-same (suc i) l =
-      sym (k .fall i l)
-      ∙ ap (λ n. word s (frontLength + 2 * n + 2 * i)) rises-same
-      ∙ h .fall i (omega (arith, falls-same))
+  fall-same (suc i) l = sym (k .fall i l) ∙ h .fall i (omega (arith, falls-same))
 
   order-same : (i : ℕ) → i ≤ d .hours → hourly (d .orders) i ≡ hourly (c .orders) i
   unfolding hourly
   order-same zero l = refl
   order-same (suc i) l =
-      sym (k .orders i l)
-      ∙ rw (rises-same, falls-same) (h .orders i (omega (arith, hours-same)))
+      let m : i < c .hours = omega (arith, hours-same) in
+      ⊎-elim (λ z. sym (k .old-orders z i l) ∙ h .old-orders z i m) (λ z. sym (k .orders z i l) ∙ h .orders z i m)
+      (h .chained .forms)
+
+  price-same : (i : ℕ) → i ≤ d .hours → priced (d .prices) i ≡ priced (c .prices) i
+  unfolding priced
+  price-same zero l = refl
+  price-same (suc i) l =
+      let m : i < c .hours = omega (arith, hours-same) in
+      ⊎-elim (λ z. signed-unique (k .old-prices z i l) (h .old-prices z i m))
+      (λ z. signed-unique (k .prices z i l) (h .prices z i m)) (h .chained .forms)
 
   trajectories-same : Trajectories c → Trajectories d
   trajectories-same t =
@@ -68,11 +86,25 @@ module _ {s : List ℕ} {c d : Case} (h : Holds s c) (k : Holds s d) (counts : C
   orders-same o =
       record { orders = λ i a b. omega (arith, order-same i b, o .orders i a (omega (arith, hours-same))) }
 
+  costs-same : Costs c → Costs d
+  costs-same m =
+      record {
+        variable = rw (signed-unique (k .variable) (h .variable)) (m .variable);
+        fixed = rw (signed-unique (k .fixed) (h .fixed)) (m .fixed);
+        startcost = rw (signed-unique (k .startcost) (h .startcost)) (m .startcost);
+        stopcost = rw (signed-unique (k .stopcost) (h .stopcost)) (m .stopcost);
+      }
+
+  prices-same : Prices c → Prices d
+  prices-same p =
+      record { prices = λ i a b. rw (price-same i b) (p .prices i a (omega (arith, hours-same))) }
+
   pub limited-same : {n : ℕ} → Limited c n → Limited d n
   limited-same (limit2 n) = limit2 counts
   limited-same (limit3 o) = limit3 (omega arith)
   limited-same (limit4 r) = limit4 (omega arith)
-  limited-same (limit5 m) = limit5 (omega arith)
+  limited-same (limit5 m) = limit5 (costs-same m)
   limited-same (limit6 t) = limit6 (trajectories-same t)
   limited-same (limit7 o) = limit7 (opening-same o)
   limited-same (limit8 o) = limit8 (orders-same o)
+  limited-same (limit13 p) = limit13 (prices-same p)

@@ -1,26 +1,31 @@
--- What `write` leaves, and the round trip: the written bytes hold the record and are read back as it, and the record of
--- a file that was read is written as that file. Assumes nothing.
+-- What `write` leaves, and the round trips: the written bytes hold the record and are read back as it; the record of a
+-- file of form 2 is written as that file, and that of any file is read again. Assumes nothing.
 use mathlib.Core.Path.{_≡_, refl, sym, ap, _∙_, subst}
 use mathlib.Core.List.{List, _++_}
-use Prim.Native.Nat.{ℕ, _+_, _≤_, _<_}
+use Prim.Native.Nat.{ℕ, _+_, _*_, _^_, _≤_, _<_}
 use native.Mathlib.Omega.{arith}
-use lib.ListN.{length, take, drop}
+use lib.Dec.{leb→le}
+use lib.IntN.{ℤ, pos, negsuc}
+use lib.ListN.{length, getD, take, drop}
 use lib.Seq.{take-append-seam, drop-append-seam}
+use lib.Signed.{_≤ℤ_}
 use Rattle.model.specs.declared.Case.{Case}
 use Rattle.model.specs.declared.Outcome.the-variants.{Accepted}
 use Rattle.model.specs.declared.Written.the-variants.{Bytes, Refused}
-use Rattle.model.specs.Layout.{AllBytes, bytesOf, zeroed, fileLength}
+use Rattle.model.specs.Forms.{oldForm}
+use Rattle.model.specs.Layout.{AllBytes, noMills, unsigned, zeroed, fileOf, bytesOf, caseOf}
 use Rattle.model.specs.Refusals.{refusalOf}
-use Rattle.model.specs.Answers.{Writing, readOf, writeOf, writtenNumbers}
-use Rattle.model.specs.Published.{Holds, Stored}
+use Rattle.model.specs.Answers.{Writing, readOf, writeOf, outcomeNumber, writtenNumbers}
+use Rattle.model.specs.Published.{word, above, Holds}
 use Rattle.model.specs.Promises.{WritesFile, WritesNone}
-use Rattle.model.proofs.LimitsLaws.{limits-of-refusalOf}
-use Rattle.model.proofs.WrittenLaws.{length-bytesOf}
-use Rattle.model.proofs.RereadLaws.{written-reads as bytesOf-reads}
-use Rattle.model.proofs.AcceptedLaws.{read-writes as bytesOf-read, read-limits}
+use Rattle.model.proofs.WrittenLaws.{length-fileOf}
+use Rattle.model.proofs.RereadLaws.{new-length, new-first, new-reads, old-reads as fileOf-reads}
+use Rattle.model.proofs.AcceptedLaws.{read-writes as fileOf-read, read-accepted, read-limits}
 use Rattle.model.proofs.SetsLaws.{sets-front}
 use Rattle.model.proofs.CodecLaws.{writeOf-refused, writeOf-short, writeOf-done}
-use Rattle.model.proofs.HoldsLaws.{holds-bytesOf}
+use Rattle.model.proofs.CutLaws.{zeroed-caseOf}
+use Rattle.model.proofs.SameLimitsLaws.{signed-unique}
+use Rattle.model.proofs.HoldsLaws.{offset-word, holds-bytesOf, read-holds}
 
 -- a file in front of the lent bytes, and nothing written
 abbrev filed : List ℕ → List ℕ → Writing
@@ -32,6 +37,13 @@ unfiled n lent = record { answer = Refused n; lent = lent }
 unfiled-none : {n : ℕ} {lent : List ℕ} {w : Writing} → unfiled n lent ≡ w → WritesNone n lent w
 unfiled-none {n} {lent} e = subst (WritesNone n lent) e (record { numbers = refl; untouched = refl })
 
+-- the length of the file of a case
+abbrev fileLength : Case → ℕ
+fileLength c = 54 + 2 * c .rises + 2 * c .falls + 5 * c .hours
+
+pub length-bytesOf : (c : Case) → length (bytesOf c) ≡ fileLength c
+length-bytesOf c = length-fileOf c _ ∙ new-length c
+
 module _ (c : Case) (lent : List ℕ) where
   writeOf-filed : refusalOf c ≡ 0 → length (bytesOf c) ≤ length lent → writeOf c lent ≡ filed (bytesOf c) lent
   writeOf-filed e room =
@@ -39,15 +51,15 @@ module _ (c : Case) (lent : List ℕ) where
       ∙ ap (λ l. record { answer = Bytes (length (bytesOf c)); lent = l }) (sets-front (bytesOf c) lent room)
 
   -- ---- what a writing leaves
-  pub written : Stored c → refusalOf c ≡ 0 → fileLength c ≤ length lent
-      → WritesFile c lent (writeOf c lent)
-  written s e room =
+  pub written : refusalOf c ≡ 0 → fileLength c ≤ length lent → WritesFile c lent (writeOf c lent)
+  written e room =
       let b = bytesOf c in
       let rest = drop (length b) lent in
       subst (WritesFile c lent) (sym (writeOf-filed e (omega (arith, length-bytesOf c))))
       (record {
         numbers = ap (λ n. (0, n)) (length-bytesOf c);
-        file = subst (λ l. Holds l c) (sym (take-append-seam b rest)) (holds-bytesOf c e s);
+        form = ap (λ l. word l 0) (take-append-seam b rest) ∙ sym (offset-word b 0) ∙ new-first c e;
+        file = subst (λ l. Holds l c) (sym (take-append-seam b rest)) (holds-bytesOf c e);
         beyond = drop-append-seam b rest;
       })
 
@@ -72,18 +84,50 @@ module _ (c : Case) (lent : List ℕ) where
       λ h. omega (arith, ap (λ t. t .0) (unfiled-none (writeOf-short c lent e h) .numbers)) in
       omega arith
 
-  pub written-reads : Stored c → writtenNumbers (writeOf c lent .answer) .0 ≡ 0
+  pub written-reads : writtenNumbers (writeOf c lent .answer) .0 ≡ 0
       → readOf (take (writtenNumbers (writeOf c lent .answer) .1) (writeOf c lent .lent))
       ≡ record { outcome = Accepted; case = zeroed c }
-  written-reads s n =
+  written-reads n =
       let e = written-within n in
       ap (λ w. readOf (take (writtenNumbers (w .answer) .1) (w .lent))) (writeOf-filed e (written-room n e))
       ∙ ap readOf (take-append-seam (bytesOf c) (drop (length (bytesOf c)) lent))
-      ∙ bytesOf-reads c (limits-of-refusalOf c e) (s .price-lt) e
+      ∙ new-reads c e
 
-pub read-writes : (s lent : List ℕ) → AllBytes s → readOf s .outcome ≡ Accepted → length s ≤ length lent
-    → writeOf (readOf s .case) lent ≡ record { answer = Bytes (length s); lent = s ++ drop (length s) lent }
-read-writes s lent a e room =
-    let b = bytesOf-read s a e in
-    writeOf-filed (readOf s .case) lent (read-limits s e) (omega (arith, ap length b))
-    ∙ ap (λ file. filed file lent) b
+module _ (s : List ℕ) (accepted : readOf s .outcome ≡ Accepted) where
+  pub read-writes : (lent : List ℕ) → AllBytes s → word s 0 ≡ 20 → length s ≤ length lent
+      → writeOf (readOf s .case) lent ≡ record { answer = Bytes (length s); lent = s ++ drop (length s) lent }
+  read-writes lent a first room =
+      let b = fileOf-read s a accepted (λ z. omega (arith, offset-word s 0)) in
+      writeOf-filed (readOf s .case) lent (read-limits s accepted) (omega (arith, ap length b))
+      ∙ ap (λ file. filed file lent) b
+
+  -- the record of a file has zeros past its counts
+  zeroed-read : zeroed (readOf s .case) ≡ readOf s .case
+  zeroed-read =
+      let r = read-accepted s accepted in
+      ap zeroed (r .record-is) ∙ zeroed-caseOf s (r .whole-file) ∙ sym (r .record-is)
+
+  pub read-again : (lent : List ℕ) → writtenNumbers (writeOf (readOf s .case) lent .answer) .0 ≡ 0
+      → readOf (take (writtenNumbers (writeOf (readOf s .case) lent .answer) .1) (writeOf (readOf s .case) lent .lent))
+      ≡ readOf s
+  read-again lent n =
+      written-reads (readOf s .case) lent n ∙ (λ i. record { outcome = sym accepted i; case = zeroed-read i })
+
+  -- a price of an old file
+  pub old-prices : AllBytes s → word s 0 ≡ 16 → (i : ℕ) → i < readOf s .case .hours
+      → getD (readOf s .case .prices) i noMills .0 ≡ pos (word s (word s 12 + 3 * i))
+  old-prices a first i h =
+      let at = word s 12 + 3 * i in
+      signed-unique (read-holds s (ap outcomeNumber accepted) .old-prices first i h)
+      (above (omega (arith, a .byte at, a .byte (at + 1))))
+
+-- a price from 0 to 65,535 has room in two bytes
+short-price : (z : ℤ) → (pos 0 ≤ℤ z) × (z ≤ℤ pos 65535) → unsigned z < 256 ^ 2
+unfolding unsigned
+short-price (pos n) h = omega (arith, leb→le n 65535 (h .1 .le))
+short-price (negsuc n) h = absurd (h .0 .le)
+
+pub old-reads : (c : Case) → refusalOf c ≡ 0
+    → ((i : ℕ) → i < c .hours → (pos 0 ≤ℤ getD (c .prices) i noMills .0) × (getD (c .prices) i noMills .0 ≤ℤ pos 65535))
+    → readOf (fileOf c oldForm) ≡ record { outcome = Accepted; case = zeroed c }
+old-reads c e low = fileOf-reads c e (λ k h. short-price (getD (c .prices) k noMills .0) (low k h))

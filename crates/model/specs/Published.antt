@@ -1,13 +1,16 @@
--- A second view of the limits and the layout: the published numbers field by field, and the bytes at their absolute
--- offsets in a file (document 01, "Case file" and "Refusal list"). The promises tie it to Limits, Refusals and Layout;
--- no entry rests on it. Definitions only. Assumes nothing.
+-- A second view of the limits and the layout: the published numbers field by field, and the bytes of a file at their
+-- offsets (document 01, "Case file" and "Refusal list"; request F-2). The promises tie it to Limits, Forms, Refusals and
+-- Layout; no entry rests on it. Definitions only. Assumes nothing.
 use mathlib.Core.Path.{_≡_}
+use mathlib.Core.Logic.{_⊎_}
 use mathlib.Core.List.{List, [], _∷_, _++_}
 use Prim.Native.Nat.{ℕ, _+_, _*_, _-_, _≤_, _<_}
+use lib.IntN.{ℤ, pos, negsuc, _-ℤ_}
 use lib.ListN.{length, getD, take, replicate}
+use lib.Signed.{_≤ℤ_}
 use Rattle.model.specs.declared.Case.{Case}
-use Rattle.model.specs.Symbols.{stage, hourly}
-use Rattle.model.specs.Layout.{noOutput}
+use Rattle.model.specs.Symbols.{stage, hourly, priced}
+use Rattle.model.specs.Layout.{noOutput, noMills}
 
 -- ---- the limits that each number stands for
 module _ (c : Case) where
@@ -27,10 +30,10 @@ module _ (c : Case) where
     pub mindown : (1 ≤ c .mindown .0) × (c .mindown .0 ≤ 8)
 
   pub record Costs : Type 0 where
-    pub variable : c .variable ≤ 1000000
-    pub fixed : c .fixed ≤ 100000000
-    pub startcost : c .startcost ≤ 100000000
-    pub stopcost : c .stopcost ≤ 100000000
+    pub variable : (pos 0 ≤ℤ c .variable .0) × (c .variable .0 ≤ℤ pos 1000000)
+    pub fixed : (pos 0 ≤ℤ c .fixed .0) × (c .fixed .0 ≤ℤ pos 100000000)
+    pub startcost : (pos 0 ≤ℤ c .startcost .0) × (c .startcost .0 ≤ℤ pos 100000000)
+    pub stopcost : (pos 0 ≤ℤ c .stopcost .0) × (c .stopcost .0 ≤ℤ pos 100000000)
 
   pub record Trajectories : Type 0 where
     pub rise-from : 1 ≤ stage (c .rise) 1
@@ -48,6 +51,10 @@ module _ (c : Case) where
   pub record Orders : Type 0 where
     pub orders : (k : ℕ) → 1 ≤ k → k ≤ c .hours → hourly (c .orders) k ≤ 2
 
+  pub record Prices : Type 0 where
+    pub prices : (k : ℕ) → 1 ≤ k → k ≤ c .hours
+        → (negsuc 9999999 ≤ℤ priced (c .prices) k) × (priced (c .prices) k ≤ℤ pos 10000000)
+
 -- a record keeps the limits of this number
 pub data Limited (c : Case) : ℕ → Type 0 where
   limit2 : Counts c → Limited c 2
@@ -57,11 +64,20 @@ pub data Limited (c : Case) : ℕ → Type 0 where
   limit6 : Trajectories c → Limited c 6
   limit7 : Opening c → Limited c 7
   limit8 : Orders c → Limited c 8
+  limit13 : Prices c → Limited c 13
 
--- the first number, of those from a to 8, whose limits are not kept; 0 where all are
-pub data FirstRefused (limited : ℕ → Type 0) (a : ℕ) : ℕ → Type 0 where
-  none : ((m : ℕ) → a ≤ m → m ≤ 8 → limited m) → FirstRefused limited a 0
-  first : (n : ℕ) → a ≤ n → n ≤ 8 → (limited n → ⊥) → ((m : ℕ) → a ≤ m → m < n → limited m) → FirstRefused limited a n
+-- the first of these numbers whose limits are not kept; 0 where all are
+pub data FirstRefused (limited : ℕ → Type 0) : List ℕ → ℕ → Type 0 where
+  none : FirstRefused limited [] 0
+  here : {n : ℕ} {ns : List ℕ} → (limited n → ⊥) → FirstRefused limited (n ∷ ns) n
+  later : {n m : ℕ} {ns : List ℕ} → limited n → FirstRefused limited ns m → FirstRefused limited (n ∷ ns) m
+
+-- the order in which the numbers of a record are tested, and after 1, 2 and 12 those of a file
+abbrev pub recordOrder : List ℕ
+recordOrder = 2 ∷ 3 ∷ 4 ∷ 5 ∷ 6 ∷ 7 ∷ 8 ∷ 13 ∷ []
+
+abbrev pub fileOrder : List ℕ
+fileOrder = 1 ∷ 2 ∷ 12 ∷ 3 ∷ 4 ∷ 5 ∷ 6 ∷ 7 ∷ 8 ∷ 13 ∷ []
 
 -- ---- the bytes of a file
 -- the 16-bit and the 32-bit number that begins at byte i
@@ -71,53 +87,70 @@ word s i = getD s i 0 + 256 * getD s (i + 1) 0
 abbrev pub long : List ℕ → ℕ → ℕ
 long s i = word s i + 65536 * word s (i + 2)
 
+-- the 32 bits of n as a number with a sign: from 2^31 on it is 2^32 less
+pub data Signed (n : ℕ) : ℤ → Type 0 where
+  above : n < 2147483648 → Signed n (pos n)
+  below : 2147483648 ≤ n → Signed n (pos n -ℤ pos 4294967296)
+
+-- Pair i stands at byte 4 i. The first offset is 16 in the old form and 20 in form 2
 module _ (s : List ℕ) where
-  -- the sections follow one another from byte 16 to the end of the file
+  -- the sections follow one another to the end of the file
   pub record Chained : Type 0 where
-    pub pairs : 16 ≤ length s
-    pub unit : word s 0 ≡ 16
+    pub forms : (word s 0 ≡ 16) ⊎ (word s 0 ≡ 20)
+    pub pairs : word s 0 ≤ length s
     pub rise : word s 4 ≡ word s 0 + word s 2
     pub fall : word s 8 ≡ word s 4 + word s 6
     pub hours : word s 12 ≡ word s 8 + word s 10
-    pub end : length s ≡ word s 12 + word s 14
+    pub old-end : word s 0 ≡ 16 → length s ≡ word s 12 + word s 14
+    pub form : word s 0 ≡ 20 → word s 16 ≡ word s 12 + word s 14
+    pub end : word s 0 ≡ 20 → length s ≡ word s 16 + word s 18
 
   -- their lengths are those of a record's counts
   pub record Measured (c : Case) : Type 0 where
     pub unit : word s 2 ≡ 32
     pub rise : word s 6 ≡ 2 * c .rises
     pub fall : word s 10 ≡ 2 * c .falls
-    pub hours : word s 14 ≡ 3 * c .hours
+    pub old-hours : word s 0 ≡ 16 → word s 14 ≡ 3 * c .hours
+    pub hours : word s 0 ≡ 20 → word s 14 ≡ 5 * c .hours
+    pub form : word s 0 ≡ 20 → word s 18 ≡ 2
 
-  -- the numbers of the file are those of a record, each at its offset
+  -- the numbers of the file are those of a record, each at its place in its section
   pub record Holds (c : Case) : Type 0 where
     pub chained : Chained
     pub measured : Measured c
-    pub capacity : word s 16 ≡ c .capacity .0
-    pub minimum : word s 18 ≡ c .minimum .0
-    pub rampup : word s 20 ≡ c .rampup .0
-    pub rampdown : word s 22 ≡ c .rampdown .0
-    pub minup : word s 24 ≡ c .minup .0
-    pub mindown : word s 26 ≡ c .mindown .0
-    pub variable : long s 28 ≡ c .variable
-    pub fixed : long s 32 ≡ c .fixed
-    pub startcost : long s 36 ≡ c .startcost
-    pub stopcost : long s 40 ≡ c .stopcost
-    pub initial : word s 44 ≡ c .initial .0
-    pub elapsed : word s 46 ≡ c .elapsed .0
-    pub rise : (i : ℕ) → i < c .rises → word s (48 + 2 * i) ≡ getD (c .rise) i noOutput .0
-    pub fall : (i : ℕ) → i < c .falls → word s (48 + 2 * c .rises + 2 * i) ≡ getD (c .fall) i noOutput .0
-    pub prices : (i : ℕ) → i < c .hours → word s (48 + 2 * c .rises + 2 * c .falls + 3 * i) ≡ getD (c .prices) i 0
-    pub orders : (i : ℕ) → i < c .hours
-        → getD s (48 + 2 * c .rises + 2 * c .falls + 3 * i + 2) 0 ≡ getD (c .orders) i 0
+    pub capacity : word s (word s 0) ≡ c .capacity .0
+    pub minimum : word s (word s 0 + 2) ≡ c .minimum .0
+    pub rampup : word s (word s 0 + 4) ≡ c .rampup .0
+    pub rampdown : word s (word s 0 + 6) ≡ c .rampdown .0
+    pub minup : word s (word s 0 + 8) ≡ c .minup .0
+    pub mindown : word s (word s 0 + 10) ≡ c .mindown .0
+    pub variable : Signed (long s (word s 0 + 12)) (c .variable .0)
+    pub fixed : Signed (long s (word s 0 + 16)) (c .fixed .0)
+    pub startcost : Signed (long s (word s 0 + 20)) (c .startcost .0)
+    pub stopcost : Signed (long s (word s 0 + 24)) (c .stopcost .0)
+    pub initial : word s (word s 0 + 28) ≡ c .initial .0
+    pub elapsed : word s (word s 0 + 30) ≡ c .elapsed .0
+    pub rise : (i : ℕ) → i < c .rises → word s (word s 4 + 2 * i) ≡ getD (c .rise) i noOutput .0
+    pub fall : (i : ℕ) → i < c .falls → word s (word s 8 + 2 * i) ≡ getD (c .fall) i noOutput .0
+    pub old-prices : word s 0 ≡ 16 → (i : ℕ) → i < c .hours
+        → Signed (word s (word s 12 + 3 * i)) (getD (c .prices) i noMills .0)
+    pub old-orders : word s 0 ≡ 16 → (i : ℕ) → i < c .hours
+        → getD s (word s 12 + 3 * i + 2) 0 ≡ getD (c .orders) i 0
+    pub prices : word s 0 ≡ 20 → (i : ℕ) → i < c .hours
+        → Signed (long s (word s 12 + 5 * i)) (getD (c .prices) i noMills .0)
+    pub orders : word s 0 ≡ 20 → (i : ℕ) → i < c .hours
+        → getD s (word s 12 + 5 * i + 4) 0 ≡ getD (c .orders) i 0
 
--- a file keeps the limits of this number: 1 and 2 by its pairs, the others by the record that it holds
+-- a file keeps the limits of this number: 1 and 2 by its pairs, 12 by its last two bytes, the others by the record that
+-- it holds
 pub data FileLimited (s : List ℕ) : ℕ → Type 0 where
   file1 : Chained s → FileLimited s 1
   file2 : (c : Case) → Measured s c → Counts c → FileLimited s 2
-  held : (n : ℕ) → 3 ≤ n → (c : Case) → Holds s c → Limited c n → FileLimited s n
+  file12 : (word s 0 ≡ 20 → word s (length s - 2) ≡ 2) → FileLimited s 12
+  held : (n : ℕ) (c : Case) → Holds s c → Limited c n → FileLimited s n
 
 -- ---- the numbers of a record
--- the numbers of the unit, in the file's order, and the counts
+-- the numbers of the unit and the counts; the costs
 abbrev pub unitNumbers : Case → List ℕ
 unitNumbers c =
     c .capacity .0
@@ -126,16 +159,15 @@ unitNumbers c =
     ∷ c .rampdown .0
     ∷ c .minup .0
     ∷ c .mindown .0
-    ∷ c .variable
-    ∷ c .fixed
-    ∷ c .startcost
-    ∷ c .stopcost
     ∷ c .initial .0
     ∷ c .elapsed .0
     ∷ c .rises
     ∷ c .falls
     ∷ c .hours
     ∷ []
+
+abbrev pub costs : Case → List ℤ
+costs c = c .variable .0 ∷ c .fixed .0 ∷ c .startcost .0 ∷ c .stopcost .0 ∷ []
 
 -- n entries as they are, and zeros up to `size`
 abbrev pub cut : {X : Type 0} → X → ℕ → ℕ → List X → List X
@@ -144,23 +176,24 @@ cut zero size n l = take n l ++ replicate (size - n) zero
 -- d is c with the entries past its counts zero
 pub record Zeroed (c d : Case) : Type 0 where
   pub unit : unitNumbers d ≡ unitNumbers c
+  pub costs : costs d ≡ costs c
   pub rise : d .rise ≡ cut noOutput 8 (c .rises) (c .rise)
   pub fall : d .fall ≡ cut noOutput 8 (c .falls) (c .fall)
-  pub prices : d .prices ≡ cut 0 48 (c .hours) (c .prices)
+  pub prices : d .prices ≡ cut noMills 48 (c .hours) (c .prices)
   pub orders : d .orders ≡ cut 0 48 (c .hours) (c .orders)
 
 -- every number of a record is 0
 pub record AllZero (c : Case) : Type 0 where
-  pub unit : unitNumbers c ≡ replicate 15 0
+  pub unit : unitNumbers c ≡ replicate 11 0
+  pub costs : costs c ≡ replicate 4 (pos 0)
   pub rise : c .rise ≡ replicate 8 noOutput
   pub fall : c .fall ≡ replicate 8 noOutput
-  pub prices : c .prices ≡ replicate 48 0
+  pub prices : c .prices ≡ replicate 48 noMills
   pub orders : c .orders ≡ replicate 48 0
 
--- what a record has room for: its arrays are of 8 and of 48 entries, and a price is a 16-bit number
+-- what a record has room for: its arrays are of 8 and of 48 entries
 pub record Stored (c : Case) : Type 0 where
   pub rise : length (c .rise) ≡ 8
   pub fall : length (c .fall) ≡ 8
   pub prices : length (c .prices) ≡ 48
   pub orders : length (c .orders) ≡ 48
-  pub price-lt : (i : ℕ) → getD (c .prices) i 0 < 65536

@@ -49,6 +49,11 @@ pub record Ordered (c : Case) (k q : ℕ) : Type 0 where
 abbrev pub scaled : ℕ → ℕ → ℕ → ℤ
 scaled a b n = (pos a -ℤ pos b) *ℤ pos n
 
+-- f 1 + .. + f n
+unfoldable pub sumℤ : (ℕ → ℤ) → ℕ → ℤ
+sumℤ f zero = pos 0
+sumℤ f (suc n) = sumℤ f n +ℤ f (suc n)
+
 -- hour k keeps the rule of this number
 pub data Kept (c : Case) (l : List ℕ) (k : ℕ) : ℕ → Type 0 where
   kept1 : (scaled (v c l k) (stopping c l k + starting c l k) (c .minimum .0) +ℤ pos (startOutput c l k))

@@ -22,10 +22,12 @@ pub const MOST_TIME: u16 = 8;
 
 pub const MOST_ELAPSED: u16 = 10000;
 
-// Mills: F, and A, B or C, at the most.
-pub const MOST_VARIABLE: u32 = 1000000;
+// Mills: F, and A, B or C, at the most; a price, at the most, above 0 and below.
+pub const MOST_VARIABLE: i32 = 1000000;
 
-pub const MOST_CHARGE: u32 = 100000000;
+pub const MOST_CHARGE: i32 = 100000000;
+
+pub const MOST_PRICE: i32 = 10000000;
 
 // The highest order byte: off-line.
 pub const MOST_ORDER: u8 = 2;
@@ -36,19 +38,31 @@ pub const WORK: usize = 8192;
 // Bytes of an input that the program reads as a case, at the most.
 pub const INPUT: usize = 4096;
 
-// Bytes of a case file: its four pairs, the unit section, both together, an output of a trajectory, an hour.
-pub const PAIRS_BYTES: usize = 16;
+// Bytes of a case file (specs/Forms): a pair of offset and length, the unit section, an output of a trajectory, an hour
+// of the old form and of the newest, the form section.
+pub const PAIR_BYTES: usize = 4;
 
 pub const UNIT_BYTES: usize = 32;
 
-pub const FRONT_BYTES: usize = PAIRS_BYTES + UNIT_BYTES;
-
 pub const STAGE_BYTES: usize = 2;
 
-pub const HOUR_BYTES: usize = 3;
+pub const OLD_HOUR_BYTES: usize = 3;
 
-// How many 16-bit numbers there are.
+pub const HOUR_BYTES: usize = 5;
+
+pub const FORM_BYTES: usize = 2;
+
+// Sections of the old form, and of the forms that have a number; that of the newest.
+pub const OLD_SECTIONS: usize = 4;
+
+pub const SECTIONS: usize = 5;
+
+pub const FORM: u16 = 2;
+
+// How many 16-bit numbers there are; how many 32-bit numbers with a sign are not below 0.
 pub const WORDS: u32 = 65536;
+
+pub const HALF_LONGS: u32 = 2147483648;
 
 // Megawatts: an output at the end of an hour, or the most that it may change in an hour.
 #[repr(C)]
@@ -122,13 +136,13 @@ impl Hour {
 
 // Mills: money per megawatt-hour, per hour, per start or per stop.
 #[repr(C)]
-pub struct Mills(pub i64);
+pub struct Mills(pub i32);
 
 // Half-mills: what a list earns.
 #[repr(C)]
 pub struct HalfMills(pub i64);
 
-// A case. A sum of money keeps the width that it has in the file, and is wrapped where it is used.
+// A case.
 #[repr(C)]
 pub struct Case {
     pub capacity: Output,
@@ -138,10 +152,10 @@ pub struct Case {
     pub minup: Hour,
     pub mindown: Hour,
     // F, in mills per megawatt-hour; A per on-line hour, B per start, C per stop, in mills
-    pub variable: u32,
-    pub fixed: u32,
-    pub startcost: u32,
-    pub stopcost: u32,
+    pub variable: Mills,
+    pub fixed: Mills,
+    pub startcost: Mills,
+    pub stopcost: Mills,
     // p(0), and h: the hours that the unit has been on-line or off-line before hour 1
     pub initial: Output,
     pub elapsed: Hour,
@@ -149,7 +163,7 @@ pub struct Case {
     pub rise: [Output; STAGES],
     pub fall: [Output; STAGES],
     // in mills per megawatt-hour; 0 free, 1 on-line, 2 off-line
-    pub prices: [u16; HOURS],
+    pub prices: [Mills; HOURS],
     pub orders: [u8; HOURS],
     // UD, DD and T: how many entries count
     pub rises: usize,

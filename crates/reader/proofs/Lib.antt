@@ -1,2 +1,3 @@
 -- Laws of the crate's own definitions.
 pub mod SectionsLaws
+pub mod TablesLaws

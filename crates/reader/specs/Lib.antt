@@ -1,2 +1,3 @@
 -- Definitions that the contracts of the crate's own functions cite.
 pub mod Sections
+pub mod Tables

@@ -1,39 +1,41 @@
--- What a section of a case file holds, by itself, and the case of the four sections. Definitions only. Assumes nothing.
-use mathlib.Core.List.{List}
-use Prim.Native.Nat.{ℕ, _+_, _*_, _/_}
-use lib.ListN.{length}
+-- What a section of a case file holds, by itself, and the case of the sections. Definitions only. Assumes nothing.
+use mathlib.Core.List.{List, []}
+use Prim.Native.Nat.{ℕ, _*_, _/_}
+use lib.ListN.{length, getD}
 use Rattle.model.specs.declared.Case.{Case}
 use Rattle.model.specs.declared.Output.{Output}
-use Rattle.model.specs.Limits.{mostStages, mostHours, stageWidth, hourWidth}
-use Rattle.model.specs.Layout.{numberAt, padded, noOutput}
+use Rattle.model.specs.declared.Mills.{Mills}
+use Rattle.model.specs.Limits.{mostStages, mostHours}
+use Rattle.model.specs.Forms.{Form as Table, entryLength}
+use Rattle.model.specs.Layout.{numberAt, fieldAt, padded, signed, noOutput, noMills}
 use Rattle.reader.specs.declared.sections.Trajectory.{Trajectory}
 use Rattle.reader.specs.declared.sections.Day.{Day}
 
 -- entry i of a trajectory; the price and the order byte of entry i of the hours, i from 0
 abbrev pub stageAt : List ℕ → ℕ → Output
-stageAt part i = record { 0 = numberAt part (stageWidth * i) 2 }
+stageAt part i = record { 0 = numberAt part (2 * i) 2 }
 
-abbrev pub priceAt : List ℕ → ℕ → ℕ
-priceAt part i = numberAt part (hourWidth * i) 2
+abbrev pub priceAt : Table → List ℕ → ℕ → Mills
+priceAt f part i = record { 0 = signed (fieldAt (getD f 3 []) part (entryLength f 3 * i) 0) }
 
-abbrev pub orderAt : List ℕ → ℕ → ℕ
-orderAt part i = numberAt part (hourWidth * i + 2) 1
+abbrev pub orderAt : Table → List ℕ → ℕ → ℕ
+orderAt f part i = fieldAt (getD f 3 []) part (entryLength f 3 * i) 1
 
 -- a trajectory: its outputs, and how many count
 unfoldable pub trajectoryOf : List ℕ → Trajectory
 trajectoryOf part =
     record {
-      outputs = padded noOutput (stageAt part) (length part / stageWidth) mostStages;
-      count = length part / stageWidth;
+      outputs = padded noOutput (stageAt part) (length part / 2) mostStages;
+      count = length part / 2;
     }
 
--- the hours: their prices, their order bytes, and how many count
-unfoldable pub dayOf : List ℕ → Day
-dayOf part =
+-- the hours in a form: their prices, their order bytes, and how many count
+unfoldable pub dayOf : Table → List ℕ → Day
+dayOf f part =
     record {
-      prices = padded 0 (priceAt part) (length part / hourWidth) mostHours;
-      orders = padded 0 (orderAt part) (length part / hourWidth) mostHours;
-      count = length part / hourWidth;
+      prices = padded noMills (priceAt f part) (length part / entryLength f 3) mostHours;
+      orders = padded 0 (orderAt f part) (length part / entryLength f 3) mostHours;
+      count = length part / entryLength f 3;
     }
 
 -- the unit, with two trajectories and a day
@@ -46,10 +48,10 @@ assembled unit rise fall day =
       rampdown = record { 0 = numberAt unit 6 2 };
       minup = record { 0 = numberAt unit 8 2 };
       mindown = record { 0 = numberAt unit 10 2 };
-      variable = numberAt unit 12 4;
-      fixed = numberAt unit 16 4;
-      startcost = numberAt unit 20 4;
-      stopcost = numberAt unit 24 4;
+      variable = record { 0 = signed (numberAt unit 12 4) };
+      fixed = record { 0 = signed (numberAt unit 16 4) };
+      startcost = record { 0 = signed (numberAt unit 20 4) };
+      stopcost = record { 0 = signed (numberAt unit 24 4) };
       initial = record { 0 = numberAt unit 28 2 };
       elapsed = record { 0 = numberAt unit 30 2 };
       rise = rise .outputs;

@@ -1,39 +1,44 @@
-// The four pairs of a case file, offset and length, and refusals 1 and 2 of a file (model's specs/Layout, Refusals).
-// Offsets and lengths are 16 bits wide in the file and reckoned with as usize, so that no sum wraps.
+// The pairs of a case file, offset and length, the form that its first offset names, and refusals 1, 2 and 12 of a file
+// (model's specs/Layout, Refusals). Offsets and lengths are 16 bits wide in the file and reckoned with as usize, so that
+// no sum wraps.
 ghost use mathlib.Core.Path.{_≡_};
-ghost use Prim.Native.Nat.{_≤_, _<_};
+ghost use mathlib.Core.Bool.{false};
+ghost use Prim.Native.Nat.{_+_, _*_, _-_, _≤_, _<_};
+ghost use lib.Dec.{eqb};
 ghost use lib.ListN.{length};
-ghost use Rattle.model.specs.Limits.{pairsLength, words};
-ghost use Rattle.model.specs.Layout.{offsetAt, lengthAt, endAt, sectionAt};
-ghost use Rattle.model.specs.Refusals.{refusal1, misfits, refusal2File};
+ghost use Rattle.model.specs.Limits.{words};
+ghost use Rattle.model.specs.Symbols.{before, every};
+ghost use Rattle.model.specs.Layout.{offsetAt, lengthAt, endAt, sectionAt, formNumberAt, formOf};
+ghost use Rattle.model.specs.Refusals.{fits, refusal1, refusal2File, refusal12};
+ghost use Rattle.reader.specs.Tables.{tableOf};
+use crate::forms::Form;
+use crate::forms::entry_bytes;
+use crate::forms::most_entries;
 use crate::numbers::word;
 use limits::counted;
-use model::HOUR_BYTES;
-use model::HOURS;
-use model::PAIRS_BYTES;
-use model::STAGE_BYTES;
-use model::STAGES;
-use model::UNIT_BYTES;
+use model::FORM;
+use model::OLD_SECTIONS;
+use model::PAIR_BYTES;
 
 // The offset in pair i of a file.
 pub(crate) fn offset_at(file: &[u8], i: usize) -> usize
-    requires { ⌜ (i < 4) × (pairsLength ≤ length (now file)) ⌝ }
+    requires { ⌜ 4 * i + 4 ≤ length (now file) ⌝ }
     ensures { λ r. ⌜ (r ≡ offsetAt (now (file .entry)) i) × (r < words) ⌝ }
 {
-    word(file, 4 * i) as usize
+    word(file, PAIR_BYTES * i) as usize
 }
 
 // The length in pair i of a file.
 pub(crate) fn length_at(file: &[u8], i: usize) -> usize
-    requires { ⌜ (i < 4) × (pairsLength ≤ length (now file)) ⌝ }
+    requires { ⌜ 4 * i + 4 ≤ length (now file) ⌝ }
     ensures { λ r. ⌜ (r ≡ lengthAt (now (file .entry)) i) × (r < words) ⌝ }
 {
-    word(file, 4 * i + 2) as usize
+    word(file, PAIR_BYTES * i + 2) as usize
 }
 
 // Where section i of a file ends; the sum does not wrap.
 pub(crate) fn end_at(file: &[u8], i: usize) -> usize
-    requires { ⌜ (i < 4) × (pairsLength ≤ length (now file)) ⌝ }
+    requires { ⌜ 4 * i + 4 ≤ length (now file) ⌝ }
     ensures { λ r. ⌜ r ≡ endAt (now (file .entry)) i ⌝ }
 {
     offset_at(file, i) + length_at(file, i)
@@ -41,8 +46,7 @@ pub(crate) fn end_at(file: &[u8], i: usize) -> usize
 
 // Section i of a file, from its own offset to its end.
 pub(crate) fn section(file: &[u8], i: usize) -> &[u8]
-    requires { ⌜ (i < 4) × (pairsLength ≤ length (now file)) ⌝ }
-    requires { ⌜ endAt (now file) i ≤ length (now file) ⌝ }
+    requires { ⌜ (4 * i + 4 ≤ length (now file)) × (endAt (now file) i ≤ length (now file)) ⌝ }
     ensures { λ r. ⌜ now r ≡ sectionAt (now (file .entry)) i ⌝ }
 {
     let from = offset_at(file, i);
@@ -50,37 +54,93 @@ pub(crate) fn section(file: &[u8], i: usize) -> &[u8]
     &file[from..to]
 }
 
-// Whether a section of so many bytes is not 1 to `most` entries of `width` bytes.
-fn misfits(bytes: usize, width: usize, most: usize) -> bool
-    requires { ⌜ 0 < width ⌝ }
-    ensures { λ r. ⌜ r ≡ misfits width most bytes ⌝ }
+// The form of a file, by its first offset.
+pub fn form_of(file: &[u8]) -> Form
+    requires { ⌜ 4 ≤ length (now file) ⌝ }
+    ensures { λ r. ⌜ tableOf r ≡ formOf (now (file .entry)) ⌝ }
 {
-    let n = bytes / width;
-    !((width * n == bytes) & counted(n, most))
+    if offset_at(file, 0) == PAIR_BYTES * OLD_SECTIONS {
+        return Form::Old;
+    }
+    Form::Two
 }
 
-// The file is too short for its pairs, or its sections do not follow one another from there to its end.
+// Whether each of n sections but the first begins where the one before ends.
+fn linked(file: &[u8], n: usize) -> bool
+    requires { ⌜ (1 ≤ n) × (4 * n ≤ length (now file)) ⌝ }
+    ensures { λ r. ⌜ r
+        ≡ every (λ i. eqb (offsetAt (now (file .entry)) i) (endAt (now (file .entry)) (before i))) (n - 1) ⌝ }
+{
+    let mut so = true;
+    let mut i = 0;
+    while i < n - 1 {
+        so = so & (offset_at(file, i + 1) == end_at(file, i));
+        i += 1;
+    }
+    so
+}
+
+// The file is too short for the pairs of its form, or its sections do not follow one another from there to its end.
 pub fn refusal1(file: &[u8]) -> bool
     ensures { λ r. ⌜ r ≡ refusal1 (now (file .entry)) ⌝ }
 {
-    if file.len() < PAIRS_BYTES {
+    if file.len() < PAIR_BYTES * OLD_SECTIONS {
+        return true;
+    }
+    let form = form_of(file);
+    let sections = form.sections();
+    if file.len() < PAIR_BYTES * sections {
         return true;
     }
     let n = file.len();
-    let late = (offset_at(file, 3) == end_at(file, 2)) & (end_at(file, 3) == n);
-    let middle = (offset_at(file, 1) == end_at(file, 0))
-        & ((offset_at(file, 2) == end_at(file, 1)) & late);
-    !((offset_at(file, 0) == PAIRS_BYTES) & middle)
+    let rest = linked(file, sections) & (end_at(file, sections - 1) == n);
+    !((offset_at(file, 0) == PAIR_BYTES * sections) & rest)
 }
 
-// A section length that does not fit.
+// Whether a section of so many bytes is 1 to `most` entries of `width` bytes.
+fn fits(bytes: usize, width: usize, most: usize) -> bool
+    requires { ⌜ 0 < width ⌝ }
+    ensures { λ r. ⌜ r ≡ fits width most bytes ⌝ }
+{
+    let n = bytes / width;
+    (width * n == bytes) & counted(n, most)
+}
+
+// A section length that does not fit, of a file that has room for its pairs.
 pub fn refusal2_file(file: &[u8]) -> bool
-    requires { ⌜ pairsLength ≤ length (now file) ⌝ }
+    requires { ⌜ refusal1 (now file) ≡ false ⌝ }
     ensures { λ r. ⌜ r ≡ refusal2File (now (file .entry)) ⌝ }
 {
-    let unit = length_at(file, 0) != UNIT_BYTES;
-    let rise = misfits(length_at(file, 1), STAGE_BYTES, STAGES);
-    let fall = misfits(length_at(file, 2), STAGE_BYTES, STAGES);
-    let hours = misfits(length_at(file, 3), HOUR_BYTES, HOURS);
-    unit | (rise | (fall | hours))
+    let form = form_of(file);
+    let sections = form.sections();
+    let mut so = true;
+    let mut i = 0;
+    while i < sections {
+        so = so & fits(length_at(file, i), entry_bytes(form, i), most_entries(i));
+        i += 1;
+    }
+    !so
+}
+
+// The number in the form section of a file with five whole sections.
+fn form_number(file: &[u8]) -> u16
+    requires { ⌜ refusal1 (now file) ≡ false ⌝ }
+    requires { ⌜ refusal2File (now file) ≡ false ⌝ }
+    requires { ⌜ tableOf Form.Two ≡ formOf (now file) ⌝ }
+    ensures { λ r. ⌜ r ≡ formNumberAt (now (file .entry)) ⌝ }
+{
+    word(section(file, 4), 0)
+}
+
+// A form number that no form has.
+pub fn refusal12(file: &[u8]) -> bool
+    requires { ⌜ refusal1 (now file) ≡ false ⌝ }
+    requires { ⌜ refusal2File (now file) ≡ false ⌝ }
+    ensures { λ r. ⌜ r ≡ refusal12 (now (file .entry)) ⌝ }
+{
+    let form = form_of(file);
+    match form {
+        Form::Old => false,
+        Form::Two => form_number(file) != FORM,
+    }
 }

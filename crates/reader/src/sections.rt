@@ -2,19 +2,25 @@
 // offset, and returns what it holds; entries past a count are zero (specs/Sections, model's specs/Layout).
 ghost use mathlib.Core.Path.{_≡_};
 ghost use mathlib.Core.Bool.{false};
-ghost use Prim.Native.Nat.{_*_, _≤_};
-ghost use lib.ListN.{length};
-ghost use Rattle.model.specs.Limits.{mostStages, mostHours, unitLength, stageWidth, hourWidth};
-ghost use Rattle.model.specs.Layout.{caseOf};
+ghost use mathlib.Core.List.{[]};
+ghost use Prim.Native.Nat.{_+_, _*_, _≤_};
+ghost use lib.ListN.{length, getD};
+ghost use Rattle.model.specs.Limits.{mostStages, mostHours};
+ghost use Rattle.model.specs.Forms.{entryLength};
+ghost use Rattle.model.specs.Layout.{signed, fieldAt, caseOf};
 ghost use Rattle.model.specs.Refusals.{refusal1, refusal2File};
 ghost use Rattle.reader.specs.Sections.{trajectoryOf, dayOf, assembled};
-use crate::numbers::long;
+ghost use Rattle.reader.specs.Tables.{tableOf};
+use crate::forms::Form;
+use crate::numbers::mills;
+use crate::numbers::short_mills;
 use crate::numbers::word;
+use crate::pairs::form_of;
 use crate::pairs::section;
 use model::Case;
-use model::HOUR_BYTES;
 use model::HOURS;
 use model::Hour;
+use model::Mills;
 use model::Output;
 use model::STAGE_BYTES;
 use model::STAGES;
@@ -27,14 +33,14 @@ pub(crate) struct Trajectory {
 
 // The prices and order bytes of a day, and how many count.
 pub(crate) struct Day {
-    prices: [u16; HOURS],
+    prices: [Mills; HOURS],
     orders: [u8; HOURS],
     count: usize,
 }
 
 // A trajectory's section.
 fn read_trajectory(part: &[u8]) -> Trajectory
-    requires { ⌜ length (now part) ≤ stageWidth * mostStages ⌝ }
+    requires { ⌜ length (now part) ≤ 2 * mostStages ⌝ }
     ensures { λ r. ⌜ r ≡ trajectoryOf (now (part .entry)) ⌝ }
 {
     let count = part.len() / STAGE_BYTES;
@@ -47,18 +53,41 @@ fn read_trajectory(part: &[u8]) -> Trajectory
     Trajectory { outputs, count }
 }
 
-// The hours section.
-fn read_day(part: &[u8]) -> Day
-    requires { ⌜ length (now part) ≤ hourWidth * mostHours ⌝ }
-    ensures { λ r. ⌜ r ≡ dayOf (now (part .entry)) ⌝ }
+// The price of the hour that begins at an offset.
+fn price_at(part: &[u8], at: usize, form: Form) -> Mills
+    requires { ⌜ at + entryLength (tableOf form) 3 ≤ length (now part) ⌝ }
+    ensures { λ r. ⌜ r .0 ≡ signed (fieldAt (getD (tableOf form) 3 []) (now (part .entry)) at 0) ⌝ }
 {
-    let count = part.len() / HOUR_BYTES;
-    let mut prices = [0u16; HOURS];
+    match form {
+        Form::Old => short_mills(part, at),
+        Form::Two => mills(part, at),
+    }
+}
+
+// The order byte of the hour that begins at an offset: its last.
+fn order_at(part: &[u8], at: usize, form: Form) -> u8
+    requires { ⌜ at + entryLength (tableOf form) 3 ≤ length (now part) ⌝ }
+    ensures { λ r. ⌜ r ≡ fieldAt (getD (tableOf form) 3 []) (now (part .entry)) at 1 ⌝ }
+{
+    let last = at + (form.hour() - 1);
+    part[last]
+}
+
+// The hours section.
+fn read_day(part: &[u8], form: Form) -> Day
+    requires { ⌜ length (now part) ≤ entryLength (tableOf form) 3 * mostHours ⌝ }
+    ensures { λ r. ⌜ r ≡ dayOf (tableOf form) (now (part .entry)) ⌝ }
+{
+    let width = form.hour();
+    let count = part.len() / width;
+    let mut prices = [Mills(0); HOURS];
     let mut orders = [0u8; HOURS];
     let mut i = 0;
     while i < count {
-        prices[i] = word(part, HOUR_BYTES * i);
-        orders[i] = part[HOUR_BYTES * i + 2];
+        let price = price_at(part, width * i, form);
+        let order = order_at(part, width * i, form);
+        prices[i] = price;
+        orders[i] = order;
         i += 1;
     }
     Day {
@@ -70,7 +99,7 @@ fn read_day(part: &[u8]) -> Day
 
 // The unit section, with what the other sections hold.
 fn read_unit(part: &[u8], rise: Trajectory, fall: Trajectory, day: Day) -> Case
-    requires { ⌜ length (now part) ≡ unitLength ⌝ }
+    requires { ⌜ length (now part) ≡ 32 ⌝ }
     ensures { λ r. ⌜ r ≡ assembled (now (part .entry)) rise fall day ⌝ }
 {
     let rises = rise.outputs;
@@ -84,10 +113,10 @@ fn read_unit(part: &[u8], rise: Trajectory, fall: Trajectory, day: Day) -> Case
         rampdown: Output(word(part, 6)),
         minup: Hour(word(part, 8)),
         mindown: Hour(word(part, 10)),
-        variable: long(part, 12),
-        fixed: long(part, 16),
-        startcost: long(part, 20),
-        stopcost: long(part, 24),
+        variable: mills(part, 12),
+        fixed: mills(part, 16),
+        startcost: mills(part, 20),
+        stopcost: mills(part, 24),
         initial: Output(word(part, 28)),
         elapsed: Hour(word(part, 30)),
         rise: rises,
@@ -106,8 +135,9 @@ pub fn case_of(file: &[u8]) -> Case
     requires { ⌜ refusal2File (now file) ≡ false ⌝ }
     ensures { λ r. ⌜ r ≡ caseOf (now (file .entry)) ⌝ }
 {
+    let form = form_of(file);
     let rise = read_trajectory(section(file, 1));
     let fall = read_trajectory(section(file, 2));
-    let day = read_day(section(file, 3));
+    let day = read_day(section(file, 3), form);
     read_unit(section(file, 0), rise, fall, day)
 }

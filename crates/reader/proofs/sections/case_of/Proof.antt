@@ -1,73 +1,98 @@
 -- `reader::sections::case_of` meets its contract. The sections lie within the file and have lengths that fit; the case
 -- of a file is the case of its sections. Assumes nothing.
-use mathlib.Core.Path.{ap, _∙_}
+use mathlib.Core.Path.{sym, ap, _∙_, subst}
+use mathlib.Core.List.{List}
+use Prim.Native.Nat.{ℕ, _+_, _*_, _≤_, _<_}
 use native.Mathlib.Omega.{arith}
-use Rattle.model.proofs.PartedLaws.{Parted, parted}
+use lib.ListN.{length}
+use Rattle.model.specs.Layout.{endAt, caseIn, caseOf}
+use Rattle.model.proofs.FormsLaws.{four-sections, known}
+use Rattle.model.proofs.AcceptedLaws.{Whole, linked, whole, ends}
 use Rattle.reader.specs.Sections.{trajectoryOf, dayOf, assembled}
-use Rattle.reader.proofs.SectionsLaws.{caseOf-sections}
+use Rattle.reader.specs.Tables.{tableOf}
+use Rattle.reader.proofs.TablesLaws.{sections-four}
+use Rattle.reader.proofs.SectionsLaws.{caseIn-sections, Sized, sized}
 use Rattle.reader.proofs.sections.case_of.Statement.{statement}
 use Rattle.reader.proofs.sections.case_of.Tie as tie
 
-whole : (s : tie.Start) → Parted (s .args .file .now)
-whole s = parted (s .args .file .now) (s .pre .0) (s .pre .1)
+-- the sections of the file in its form
+module _ (c : tie.After-form-of) where
+  abbrev file : List ℕ
+  file = c .before .before .args .file .now
+
+  all : Whole (tableOf (c .form-of .result)) file
+  all =
+      let s = c .before .before in
+      subst (λ f. Whole f file) (sym (c .form-of .ensures)) (whole file (s .pre .0) (s .pre .1))
+
+  sizes : Sized file (c .form-of .result)
+  sizes = sized file (c .form-of .result) all
+
+  inside : (i : ℕ) → i < 4 → (4 * i + 4 ≤ length file) × (endAt file i ≤ length file)
+  inside i h =
+      let four = sections-four (c .form-of .result) in
+      (omega (arith, all .linked .long), ends all i (omega arith))
+
+form-of-requires : tie.Need-form-of-requires
+form-of-requires c κs =
+    let s = c .before in
+    let f = s .args .file .now in
+    omega (arith, linked f (s .pre .0) .long, four-sections (known f))
 
 section-requires : tie.Need-section-requires
-section-requires c κs = let p = whole (c .before) in ((omega arith, p .long), p .end1)
+section-requires c κs = inside c 1 (omega arith)
 
 read-trajectory-requires : tie.Need-read-trajectory-requires
-read-trajectory-requires c κs =
-    let p = whole (c .before .before) in
-    rw (c .section .ensures) (omega arith)
+read-trajectory-requires c κs = omega (arith, ap length (c .section .ensures), sizes (c .before) .rise)
 
 section-requires-2 : tie.Need-section-requires-2
-section-requires-2 c κs = let p = whole (c .before .before .before) in ((omega arith, p .long), p .end2)
+section-requires-2 c κs = inside (c .before .before) 2 (omega arith)
 
 read-trajectory-requires-2 : tie.Need-read-trajectory-requires-2
 read-trajectory-requires-2 c κs =
-    let p = whole (c .before .before .before .before) in
-    rw (c .section2 .ensures) (omega arith)
+    let form = c .before .before .before in
+    omega (arith, ap length (c .section2 .ensures), sizes form .fall)
 
 section-requires-3 : tie.Need-section-requires-3
-section-requires-3 c κs =
-    let s = c .before .before .before .before .before in
-    let p = whole s in ((omega arith, p .long), p .end3)
+section-requires-3 c κs = let form = c .before .before .before .before in inside form 3 (omega arith)
 
 read-day-requires : tie.Need-read-day-requires
 read-day-requires c κs =
-    let s = c .before .before .before .before .before .before in
-    let p = whole s in
-    rw (c .section3 .ensures) (omega arith)
+    let form = c .before .before .before .before .before in
+    omega (arith, ap length (c .section3 .ensures), sizes form .hours)
 
 section-requires-4 : tie.Need-section-requires-4
 section-requires-4 c κs =
-    let s = c .before .before .before .before .before .before .before in
-    let p = whole s in
-    ((omega arith, p .long), p .end0)
+    let form = c .before .before .before .before .before .before in
+    inside form 0 (omega arith)
 
 read-unit-requires : tie.Need-read-unit-requires
 read-unit-requires c κs =
-    let s = c .before .before .before .before .before .before .before .before in
-    let p = whole s in
-    rw (c .section4 .ensures) (p .unit)
+    let form = c .before .before .before .before .before .before .before in
+    ap length (c .section4 .ensures) ∙ sizes form .unit
 
 returns : tie.Need-returns
+unfolding caseOf
 returns c =
     let unit = c .before .section4 .ensures in
     let three = c .before .before in
-    let day = three .read-day .ensures ∙ ap dayOf (three .before .section3 .ensures) in
     let two = three .before .before in
-    let fall = two .read-trajectory2 .ensures ∙ ap trajectoryOf (two .before .section2 .ensures) in
     let one = two .before .before in
+    let form = one .before .before in
+    let table = tableOf (form .form-of .result) in
+    let day = three .read-day .ensures ∙ ap (dayOf table) (three .before .section3 .ensures) in
+    let fall = two .read-trajectory2 .ensures ∙ ap trajectoryOf (two .before .section2 .ensures) in
     let rise = one .read-trajectory .ensures ∙ ap trajectoryOf (one .before .section .ensures) in
-    let s = one .before .before .before in
     c .read-unit .ensures
     ∙ (λ j. assembled (unit j) (rise j) (fall j) (day j))
-    ∙ caseOf-sections (s .args .file .now) (whole s)
+    ∙ caseIn-sections (file form) (form .form-of .result) (all form)
+    ∙ ap (λ f. caseIn f (file form)) (form .form-of .ensures)
 
 pub case-of-spec : {M : Type 1} → statement M
 case-of-spec =
     tie.close
     (tie.spec
+    form-of-requires
     section-requires
     read-trajectory-requires
     section-requires-2

@@ -1,78 +1,112 @@
 -- `reader::sections::read_day` meets its contract. The invariant: the first i prices and order bytes are read, and
 -- those past them are zero. Assumes nothing.
-use mathlib.Core.Path.{sym}
-use Prim.Native.Nat.{_+_, _*_, _-_, _/_}
+use borrow.Author.Needs.{needs}
+use mathlib.Core.Path.{_≡_, ap, _∙_}
+use mathlib.Core.List.{List, []}
+use Prim.Native.Nat.{ℕ, _+_, _*_, _-_, _/_, _≤_, _<_}
 use native.Mathlib.Omega.{arith}
 use lib.ListN.{length, getD}
-use Rattle.model.specs.Limits.{mostHours, hourWidth}
-use Rattle.model.proofs.NumbersLaws.{numberAt-one}
-use Rattle.reader.specs.Sections.{priceAt, orderAt, dayOf}
+use Rattle.model.specs.Limits.{mostHours}
+use Rattle.model.specs.Forms.{entryLength}
+use Rattle.model.specs.Layout.{padded, noMills, signed, fieldAt}
 use Rattle.model.proofs.FilledLaws.{Filled, filled-start, filled-step, filled-end}
+use Rattle.reader.specs.declared.forms.Form.{Form}
+use Rattle.reader.specs.Sections.{priceAt, orderAt, dayOf}
+use Rattle.reader.specs.Tables.{tableOf}
+use Rattle.reader.proofs.TablesLaws.{hour-some, entry-room, entries-le}
 use Rattle.reader.proofs.sections.read_day.Statement.{statement}
 use Rattle.reader.proofs.sections.read_day.Tie as tie
 
 abbrev Inv-loop : tie.InvT-loop
-Inv-loop part count prices₀ orders₀ i₀ prices orders i =
-    Filled 0 (priceAt part) count mostHours prices i × Filled 0 (orderAt part) count mostHours orders i
+Inv-loop part form width count prices₀ orders₀ i₀ prices orders i =
+    Filled noMills (priceAt (tableOf form) part) count mostHours prices i
+    × Filled 0 (orderAt (tableOf form) part) count mostHours orders i
 
 abbrev μ-loop : tie.MeasureT-loop
-μ-loop part count prices₀ orders₀ i₀ prices orders i = count - i
+μ-loop part form width count prices₀ orders₀ i₀ prices orders i = count - i
+
+-- the bytes of an hour, and how many hours the section has
+module _ (c : tie.After-hour Inv-loop μ-loop) where
+  abbrev part : List ℕ
+  part = c .before .before .args .part .now
+
+  abbrev form : Form
+  form = c .before .before .args .form
+
+  abbrev size : ℕ
+  size = c .hour .result
+
+  some : 0 < size
+  some = omega (arith, c .hour .ensures, hour-some form)
+
+  few : length part / size ≤ mostHours
+  few = entries-le size (length part) mostHours some (omega (arith, c .hour .ensures, c .before .before .pre))
+
+  room : (i : ℕ) → i < length part / size → size * i + entryLength (tableOf form) 3 ≤ length part
+  room i h = omega (arith, entry-room size (length part) i h, c .hour .ensures)
+
+div-count : tie.Need-div-count Inv-loop μ-loop
+div-count c = some c
 
 loop-holds : tie.Need-loop-holds Inv-loop μ-loop
-loop-holds c = (filled-start 0 _ _ mostHours, filled-start 0 _ _ mostHours)
+loop-holds c = (filled-start noMills _ _ mostHours, filled-start 0 _ _ mostHours)
 
-mul-word : tie.Need-mul-word Inv-loop μ-loop
-mul-word c = omega arith
+mul-price-at : tie.Need-mul-price-at Inv-loop μ-loop
+mul-price-at c = omega (arith, room (c .before .before) (c .before .loop .i) (c .loop-test .taken))
 
-word-requires : tie.Need-word-requires Inv-loop μ-loop
-word-requires c κs = omega arith
+price-at-requires : tie.Need-price-at-requires Inv-loop μ-loop
+price-at-requires c κs = room (c .before .before) (c .before .loop .i) (c .loop-test .taken)
+
+mul-order-at : tie.Need-mul-order-at Inv-loop μ-loop
+mul-order-at c = mul-price-at (c .before)
+
+order-at-requires : tie.Need-order-at-requires Inv-loop μ-loop
+order-at-requires c κs = price-at-requires (c .before) κs
 
 mul-prices : tie.Need-mul-prices Inv-loop μ-loop
-mul-prices c = omega arith
+mul-prices c = omega (arith, few (c .before .before .before .before))
 
-array-write-prices : tie.Need-array-write-prices Inv-loop μ-loop
-array-write-prices c = omega arith
-
-mul-orders : tie.Need-mul-orders Inv-loop μ-loop
-mul-orders c = omega arith
-
-add-orders : tie.Need-add-orders Inv-loop μ-loop
-add-orders c = omega arith
-
-shared-slice-read-orders : tie.Need-shared-slice-read-orders Inv-loop μ-loop
-shared-slice-read-orders c = omega arith
+array-set-from-prices : tie.Need-array-set-from-prices Inv-loop μ-loop
+array-set-from-prices c = omega (arith, few (c .before .before .before .before))
 
 array-write-orders : tie.Need-array-write-orders Inv-loop μ-loop
-array-write-orders c = omega arith
+array-write-orders c = omega (arith, few (c .before .before .before .before))
 
 add-i : tie.Need-add-i Inv-loop μ-loop
-add-i c = omega arith
+add-i c = omega (arith, few (c .before .before .before .before))
 
 loop-less : tie.Need-loop-less Inv-loop μ-loop
 loop-less c = omega arith
 
 loop-again : tie.Need-loop-again Inv-loop μ-loop
 loop-again c =
-    let call = c .before in
-    let at = call .before .before in
-    let part = at .before .before .args .part .now in
-    let n = length part / hourWidth in
-    let place = hourWidth * at .loop .i + 2 in (
-      filled-step 0 (priceAt part) n mostHours (call .word .result) (at .loop .inv .0) (omega arith) (omega arith)
-          (call .word .ensures),
-      filled-step 0 (orderAt part) n mostHours (getD part place 0) (at .loop .inv .1) (omega arith) (omega arith)
-          (sym (numberAt-one part place)),
+    let price = c .before in
+    let test = price .before in
+    let l = test .before .loop in
+    let h = test .before .before in
+    let table = tableOf (form h) in
+    let n = length (part h) / size h in
+    let at : size h * l .i ≡ entryLength table 3 * l .i = ap (λ k. k * l .i) (h .hour .ensures) in
+    let paid = price .price-at .ensures ∙ ap (λ k. signed (fieldAt (getD table 3 []) (part h) k 0)) at in (
+      filled-step noMills (priceAt table (part h)) n mostHours (price .price-at .result) (l .inv .0)
+          (test .loop-test .taken) (few h) (λ j. record { 0 = paid j }),
+      filled-step 0 (orderAt table (part h)) n mostHours (c .order-at .result) (l .inv .1) (test .loop-test .taken)
+          (few h) (c .order-at .ensures ∙ ap (λ k. fieldAt (getD table 3 []) (part h) k 1) at),
     )
 
 returns : tie.Need-returns Inv-loop μ-loop
 unfolding dayOf
 returns c =
-    let at = c .before in
-    let part = at .before .before .args .part .now in
-    let n = length part / hourWidth in
-    let p = filled-end 0 (priceAt part) n mostHours (at .loop .inv .0) (omega arith) in
-    let o = filled-end 0 (orderAt part) n mostHours (at .loop .inv .1) (omega arith) in
-    λ j. record { prices = p j; orders = o j; count = n }
+    let l = c .before .loop in
+    let h = c .before .before in
+    let table = tableOf (form h) in
+    let n = length (part h) / size h in
+    let count : n ≡ length (part h) / entryLength table 3 = ap (λ k. length (part h) / k) (h .hour .ensures) in
+    let p = filled-end noMills (priceAt table (part h)) n mostHours (l .inv .0) (c .loop-test .left)
+    ∙ ap (λ k. padded noMills (priceAt table (part h)) k mostHours) count in
+    let o = filled-end 0 (orderAt table (part h)) n mostHours (l .inv .1) (c .loop-test .left)
+    ∙ ap (λ k. padded 0 (orderAt table (part h)) k mostHours) count in
+    λ j. record { prices = p j; orders = o j; count = count j }
 
 pub read-day-spec : {M : Type 1} → statement M
 read-day-spec =
@@ -80,14 +114,15 @@ read-day-spec =
     (tie.spec
     Inv-loop
     μ-loop
+    (λ c κs. search needs)
+    div-count
     loop-holds
-    mul-word
-    word-requires
+    mul-price-at
+    price-at-requires
+    mul-order-at
+    order-at-requires
     mul-prices
-    array-write-prices
-    mul-orders
-    add-orders
-    shared-slice-read-orders
+    array-set-from-prices
     array-write-orders
     add-i
     loop-less

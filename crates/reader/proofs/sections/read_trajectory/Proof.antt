@@ -4,7 +4,7 @@ use Prim.Native.Nat.{_-_, _/_}
 use native.Mathlib.Omega.{arith}
 use lib.ListN.{length}
 use Rattle.model.specs.declared.Output.{Output}
-use Rattle.model.specs.Limits.{mostStages, stageWidth}
+use Rattle.model.specs.Limits.{mostStages}
 use Rattle.model.specs.Layout.{noOutput}
 use Rattle.reader.specs.Sections.{stageAt, trajectoryOf}
 use Rattle.model.proofs.FilledLaws.{Filled, filled-start, filled-step, filled-end}
@@ -42,7 +42,7 @@ loop-again : tie.Need-loop-again Inv-loop μ-loop
 loop-again c =
     let at = c .before .before in
     let part = at .before .before .args .part .now in
-    let n = length part / stageWidth in
+    let n = length part / 2 in
     let x : Output = record { 0 = c .word .result } in
     filled-step noOutput (stageAt part) n mostStages x (at .loop .inv) (omega arith) (omega arith)
     (λ j. record { 0 = c .word .ensures j })
@@ -52,7 +52,7 @@ unfolding trajectoryOf
 returns c =
     let at = c .before in
     let part = at .before .before .args .part .now in
-    let n = length part / stageWidth in
+    let n = length part / 2 in
     let e = filled-end noOutput (stageAt part) n mostStages (at .loop .inv) (omega arith) in
     λ j. record { outputs = e j; count = n }
 

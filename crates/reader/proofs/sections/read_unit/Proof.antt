@@ -23,17 +23,17 @@ word-requires-5 c κs = search needs
 word-requires-6 : tie.Need-word-requires-6
 word-requires-6 c κs = search needs
 
-long-requires : tie.Need-long-requires
-long-requires c κs = search needs
+mills-requires : tie.Need-mills-requires
+mills-requires c κs = search needs
 
-long-requires-2 : tie.Need-long-requires-2
-long-requires-2 c κs = search needs
+mills-requires-2 : tie.Need-mills-requires-2
+mills-requires-2 c κs = search needs
 
-long-requires-3 : tie.Need-long-requires-3
-long-requires-3 c κs = search needs
+mills-requires-3 : tie.Need-mills-requires-3
+mills-requires-3 c κs = search needs
 
-long-requires-4 : tie.Need-long-requires-4
-long-requires-4 c κs = search needs
+mills-requires-4 : tie.Need-mills-requires-4
+mills-requires-4 c κs = search needs
 
 word-requires-7 : tie.Need-word-requires-7
 word-requires-7 c κs = search needs
@@ -54,10 +54,10 @@ returns c =
       rampdown = record { 0 = m .before .before .before .word4 .ensures i };
       minup = record { 0 = m .before .before .word5 .ensures i };
       mindown = record { 0 = m .before .word6 .ensures i };
-      variable = m .long .ensures i;
-      fixed = c .before .before .before .before .long2 .ensures i;
-      startcost = c .before .before .before .long3 .ensures i;
-      stopcost = c .before .before .long4 .ensures i;
+      variable = record { 0 = m .mills .ensures i };
+      fixed = record { 0 = c .before .before .before .before .mills2 .ensures i };
+      startcost = record { 0 = c .before .before .before .mills3 .ensures i };
+      stopcost = record { 0 = c .before .before .mills4 .ensures i };
       initial = record { 0 = c .before .word7 .ensures i };
       elapsed = record { 0 = c .word8 .ensures i };
       rise = s .args .rise .outputs;
@@ -79,10 +79,10 @@ read-unit-spec =
     word-requires-4
     word-requires-5
     word-requires-6
-    long-requires
-    long-requires-2
-    long-requires-3
-    long-requires-4
+    mills-requires
+    mills-requires-2
+    mills-requires-3
+    mills-requires-4
     word-requires-7
     word-requires-8
     returns)

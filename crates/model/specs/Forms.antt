@@ -1,0 +1,54 @@
+-- The forms of a case file (document 01, "Case file"; request F-2): one table of widths, from which reading, writing,
+-- lengths and refusals 1, 2 and 12 follow. Definitions only. Assumes nothing.
+use mathlib.Core.Bool.{Bool, true, _&&_, not, cond}
+use mathlib.Core.List.{List, [], _∷_}
+use Prim.Native.Nat.{ℕ, _+_, _*_}
+use lib.Dec.{eqb}
+use lib.ListN.{length, getD}
+use Rattle.model.specs.Limits.{mostStages, mostHours}
+
+-- a form: for each section of the file the widths, in bytes, of the fields of an entry
+abbrev pub Form : Type 0
+Form = List (List ℕ)
+
+-- the unit: capacity, minimum output, RU, RD, minimum up time, minimum down time, F, A, B, C, p(0), h
+abbrev pub unitWidths : List ℕ
+unitWidths = 2 ∷ 2 ∷ 2 ∷ 2 ∷ 2 ∷ 2 ∷ 4 ∷ 4 ∷ 4 ∷ 4 ∷ 2 ∷ 2 ∷ []
+
+-- unit, start-up trajectory, shut-down trajectory, hours (price and order), form number: the old form, which has no
+-- number, and the newest with its number
+abbrev pub oldForm : Form
+oldForm = unitWidths ∷ (2 ∷ []) ∷ (2 ∷ []) ∷ (2 ∷ 1 ∷ []) ∷ []
+
+abbrev pub newest : ℕ × Form
+newest = (2, unitWidths ∷ (2 ∷ []) ∷ (2 ∷ []) ∷ (4 ∷ 1 ∷ []) ∷ (2 ∷ []) ∷ [])
+
+-- the forms that have a number
+abbrev pub numbered : List (ℕ × Form)
+numbered = newest ∷ []
+
+-- entries of each section, at the most; there is at least one
+abbrev pub mostEntries : List ℕ
+mostEntries = 1 ∷ mostStages ∷ mostStages ∷ mostHours ∷ 1 ∷ []
+
+-- the form of a number; one that no form has is measured by the newest
+unfoldable pub formNumbered : List (ℕ × Form) → ℕ → Form
+formNumbered [] n = newest .1
+formNumbered (f ∷ fs) n = cond (eqb n (f .0)) (f .1) (formNumbered fs n)
+
+-- no form has this number
+unfoldable pub unknown : List (ℕ × Form) → ℕ → Bool
+unknown [] n = true
+unknown (f ∷ fs) n = not (eqb n (f .0)) && unknown fs n
+
+-- the bytes of an entry
+unfoldable pub width : List ℕ → ℕ
+width [] = 0
+width (w ∷ ws) = w + width ws
+
+-- the bytes of an entry of section i, and of all pairs
+abbrev pub entryLength : Form → ℕ → ℕ
+entryLength f i = width (getD f i [])
+
+abbrev pub pairsLength : Form → ℕ
+pairsLength f = 4 * length f

@@ -1,0 +1,93 @@
+-- The bytes of an entry, and how many entries there may be, section by section; entries of a part. Assumes nothing.
+use mathlib.Core.Path.{_≡_, refl}
+use mathlib.Core.Bool.{true, false, _||_, true≢false}
+use mathlib.Core.Logic.{⊎-elim}
+use Prim.Native.Nat.{ℕ, zero, suc, _+_, _*_, _/_, _≤_, _<_}
+use native.Mathlib.Decide.{decLt}
+use native.Mathlib.Nat.{mul-div-le, mul-le-mul-left, mul-suc}
+use native.Mathlib.Omega.{arith}
+use borrow.Author.Tests.{eqb-true}
+use lib.Dec.{eqb}
+use lib.ListN.{length, getD}
+use Rattle.laws.proofs.Tests.{either}
+use Rattle.model.specs.Limits.{mostStages}
+use Rattle.model.specs.Forms.{mostEntries, width, entryLength}
+use Rattle.reader.specs.declared.forms.Form.{Form}
+use Rattle.reader.specs.declared.forms.Form.the-variants.{Old, Two}
+use Rattle.reader.specs.Tables.{tableOf}
+
+pub sections-four : (f : Form) → 4 ≤ length (tableOf f)
+sections-four Old = omega arith
+sections-four Two = omega arith
+
+pub sections-five : (f : Form) → length (tableOf f) ≤ 5
+sections-five Old = omega arith
+sections-five Two = omega arith
+
+pub entry-unit : (f : Form) (i : ℕ) → i ≡ 0 → 32 ≡ entryLength (tableOf f) i
+unfolding width
+entry-unit Old i e = rw e
+entry-unit Two i e = rw e
+
+pub entry-stage : (f : Form) (i : ℕ) → (i ≡ 0 → ⊥) → i < 3 → 2 ≡ entryLength (tableOf f) i
+unfolding width
+entry-stage f zero n h = absurd (n refl)
+entry-stage Old (suc zero) n h = refl
+entry-stage Two (suc zero) n h = refl
+entry-stage Old (suc (suc zero)) n h = refl
+entry-stage Two (suc (suc zero)) n h = refl
+entry-stage f (suc (suc (suc i))) n h = absurd (omega arith)
+
+pub entry-form : (f : Form) (i : ℕ) → 3 < i → i < length (tableOf f) → 2 ≡ entryLength (tableOf f) i
+unfolding width
+entry-form Old i n h = absurd (omega arith)
+entry-form Two zero n h = absurd (omega arith)
+entry-form Two (suc zero) n h = absurd (omega arith)
+entry-form Two (suc (suc zero)) n h = absurd (omega arith)
+entry-form Two (suc (suc (suc zero))) n h = absurd (omega arith)
+entry-form Two (suc (suc (suc (suc zero)))) n h = refl
+entry-form Two (suc (suc (suc (suc (suc i))))) n h = absurd (omega arith)
+
+pub entry-some : (f : Form) (i : ℕ) → i < length (tableOf f) → 0 < entryLength (tableOf f) i
+unfolding width
+entry-some Old zero h = omega arith
+entry-some Old (suc zero) h = omega arith
+entry-some Old (suc (suc zero)) h = omega arith
+entry-some Old (suc (suc (suc zero))) h = omega arith
+entry-some Old (suc (suc (suc (suc i)))) h = absurd (omega arith)
+entry-some Two zero h = omega arith
+entry-some Two (suc zero) h = omega arith
+entry-some Two (suc (suc zero)) h = omega arith
+entry-some Two (suc (suc (suc zero))) h = omega arith
+entry-some Two (suc (suc (suc (suc zero)))) h = omega arith
+entry-some Two (suc (suc (suc (suc (suc i))))) h = absurd (omega arith)
+
+-- the bytes of an hour
+pub hour-some : (f : Form) → 3 ≤ entryLength (tableOf f) 3
+unfolding width
+hour-some Old = omega arith
+hour-some Two = omega arith
+
+pub most-stage : (i : ℕ) → eqb i 1 || eqb i 2 ≡ true → mostStages ≡ getD mostEntries i 0
+most-stage i e = ⊎-elim (λ a. rw (eqb-true i 1 a)) (λ b. rw (eqb-true i 2 b)) (either (eqb i 1) (eqb i 2) e)
+
+pub most-one : (i : ℕ) → i < 5 → (i ≡ 3 → ⊥) → eqb i 1 || eqb i 2 ≡ false → 1 ≡ getD mostEntries i 0
+most-one zero h n e = refl
+most-one (suc zero) h n e = absurd (true≢false e)
+most-one (suc (suc zero)) h n e = absurd (true≢false e)
+most-one (suc (suc (suc zero))) h n e = absurd (n refl)
+most-one (suc (suc (suc (suc zero)))) h n e = refl
+most-one (suc (suc (suc (suc (suc i))))) h n e = absurd (omega arith)
+
+-- ---- entries of a part
+-- entry i of a part lies within it
+pub entry-room : (w n i : ℕ) → i < n / w → w * i + w ≤ n
+entry-room w n i h = omega (arith, mul-div-le n w, mul-le-mul-left w h, mul-suc w i)
+
+-- a part of no more bytes has no more entries
+pub entries-le : (w n most : ℕ) → 0 < w → n ≤ w * most → n / w ≤ most
+entries-le w n most some h = go (decLt most (n / w))
+  where
+    go : Dec (most < n / w) → n / w ≤ most
+    go (yes l) = absurd (omega (arith, mul-div-le n w, mul-le-mul-left w l, mul-suc w most))
+    go (no l) = omega arith
