@@ -13,7 +13,7 @@ use Rattle.model.specs.declared.Case.{Case}
 use Rattle.model.specs.declared.Reading.{Reading}
 use Rattle.model.specs.declared.Outcome.the-variants.{Accepted, Refused}
 use Rattle.model.specs.Limits.{mostStages, mostHours}
-use Rattle.model.specs.Forms.{Form, formNumbered, width}
+use Rattle.model.specs.Forms.{Form, formNumbered}
 use Rattle.model.specs.Layout.{number, numberAt, offsetAt, lengthAt, listed, padded, noOutput, noMills, signed}
 use Rattle.model.specs.Layout.{blank, zeroed, sectionAt, fieldAt, formNumberAt, formOf, entriesAt, entryAt}
 use Rattle.model.specs.Layout.{caseIn, caseOf}
@@ -156,7 +156,7 @@ zeros =
 
 pub blank-zeros : zeros ≡ blank
 unfolding blank caseOf caseIn formOf formNumbered formNumberAt entriesAt entryAt fieldAt sectionAt offsetAt lengthAt
-    numberAt number width padded listed signed
+    numberAt number padded listed signed
 blank-zeros = refl
 
 blank-view : AllZero blank

@@ -9,11 +9,11 @@ use lib.ListN.{length, getD, take, drop, length-append}
 use lib.Seq.{take-at, drop-append-seam, take-add, drop-drop}
 use Rattle.model.specs.Forms.{width}
 use Rattle.model.specs.Layout.{AllBytes, number, numberAt, joined, bytes, fieldBytes, fieldAt}
-use Rattle.model.proofs.LayoutLaws.{length-bytes, number-bytes, bytes-numberAt, numberAt-part, length-joined}
+use Rattle.model.proofs.LayoutLaws.{length-bytes, number-bytes, bytes-numberAt, numberAt-part}
 use Rattle.model.proofs.LayoutLaws.{joined-part, joined-same, joined-parts}
 
 pub length-fieldBytes : (ws ns : List ℕ) → length (fieldBytes ws ns) ≡ width ws
-unfolding fieldBytes width
+unfolding fieldBytes
 length-fieldBytes [] ns = refl
 length-fieldBytes (w ∷ ws) [] =
     omega (arith, length-append (bytes w 0) (fieldBytes ws []), length-bytes w 0, length-fieldBytes ws [])
@@ -45,7 +45,7 @@ fieldAt-between (w ∷ ws) (n ∷ ns) front rest (suc j) h k b =
 -- a field within a part of a list
 fieldAt-part : (ws s : List ℕ) (at base size j : ℕ) → base + width ws ≤ size
     → fieldAt ws s (at + base) j ≡ fieldAt ws (take size (drop at s)) base j
-unfolding fieldAt width
+unfolding fieldAt
 fieldAt-part [] s at base size j h = refl
 fieldAt-part (w ∷ ws) s at base size zero h = numberAt-part s at size base w (omega arith)
 fieldAt-part (w ∷ ws) s at base size (suc j) h =
@@ -75,7 +75,7 @@ Matches (w ∷ ws) (n ∷ ns) s at = (n ≡ numberAt s at w) × Matches ws ns s 
 
 fieldBytes-read : (s : List ℕ) → AllBytes s → (ws ns : List ℕ) (at : ℕ) → at + width ws ≤ length s → Matches ws ns s at
     → fieldBytes ws ns ≡ take (width ws) (drop at s)
-unfolding fieldBytes width
+unfolding fieldBytes
 fieldBytes-read s a [] ns at h m = refl
 fieldBytes-read s a (w ∷ ws) [] at h m = absurd m
 fieldBytes-read s a (w ∷ ws) (n ∷ ns) at h m =

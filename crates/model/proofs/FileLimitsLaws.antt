@@ -11,7 +11,7 @@ use lib.ListN.{length}
 use Rattle.model.specs.declared.Case.{Case}
 use Rattle.model.specs.Limits.{mostStages, mostHours}
 use Rattle.model.specs.Symbols.{every}
-use Rattle.model.specs.Forms.{oldForm, newest, unknown, width}
+use Rattle.model.specs.Forms.{oldForm, newest, unknown}
 use Rattle.model.specs.Layout.{numberAt, offsetAt, lengthAt, endAt, sectionAt, formNumberAt, formOf, caseIn, caseOf}
 use Rattle.model.specs.Refusals.{within, fits, refusal1, refusal2File, refusal12, firstOf, fileTests, refusalOf}
 use Rattle.model.specs.Answers.{readingOf, readOf, outcomeNumber}
@@ -22,7 +22,7 @@ use Rattle.model.proofs.RefusalsLaws.{first-exactly, first-cond, first-
 use Rattle.model.proofs.LimitsLaws.{Between}
 use Rattle.model.proofs.LimitedLaws.{refusalOf-first}
 use Rattle.model.proofs.LayoutLaws.{numberAt-part}
-use Rattle.model.proofs.FormsLaws.{four-sections, known, formOf-old, formOf-new}
+use Rattle.model.proofs.FormsLaws.{oldFront, front, four-sections, known, formOf-old, formOf-new}
 use Rattle.model.proofs.AcceptedLaws.{linked, whole, number-known}
 use Rattle.model.proofs.SameLimitsLaws.{limited-same}
 use Rattle.model.proofs.HoldsLaws.{numberAt-word, offset-word, length-word, end-word, chained-of, holds-caseOf}
@@ -46,10 +46,10 @@ counts-of (limit2 n) = n
 
 module _ (s : List ℕ) where
   -- ---- a chained file is not refused by 1
-  first-old : word s 0 ≡ 16 → formOf s ≡ oldForm
+  first-old : word s 0 ≡ oldFront → formOf s ≡ oldForm
   first-old e = formOf-old s (offset-word s 0 ∙ e)
 
-  first-new : word s 0 ≡ 20 → formOf s ≡ newest .1
+  first-new : word s 0 ≡ front → formOf s ≡ newest .1
   first-new e = formOf-new s (λ z. omega (arith, offset-word s 0))
 
   begins : (i : ℕ) → word s (4 * suc i) ≡ word s (4 * i) + word s (4 * i + 2)
@@ -60,24 +60,24 @@ module _ (s : List ℕ) where
   unfolding refusal1 every
   refusal1-chained c = ⊎-elim as-old as-new (c .forms)
     where
-      as-old : word s 0 ≡ 16 → refusal1 s ≡ false
+      as-old : word s 0 ≡ oldFront → refusal1 s ≡ false
       as-old e =
           rw (
             first-old e,
-            le-leb 16 (length s) (omega (arith, c .pairs)),
-            eq-eqb (offsetAt s 0) 16 (offset-word s 0 ∙ e),
+            le-leb oldFront (length s) (omega (arith, c .pairs)),
+            eq-eqb (offsetAt s 0) oldFront (offset-word s 0 ∙ e),
             begins 0 (c .rise),
             begins 1 (c .fall),
             begins 2 (c .hours),
             eq-eqb (endAt s 3) (length s) (end-word s 3 ∙ sym (c .old-end e)),
           )
 
-      as-new : word s 0 ≡ 20 → refusal1 s ≡ false
+      as-new : word s 0 ≡ front → refusal1 s ≡ false
       as-new e =
           rw (
             first-new e,
-            le-leb 20 (length s) (omega (arith, c .pairs)),
-            eq-eqb (offsetAt s 0) 20 (offset-word s 0 ∙ e),
+            le-leb front (length s) (omega (arith, c .pairs)),
+            eq-eqb (offsetAt s 0) front (offset-word s 0 ∙ e),
             begins 0 (c .rise),
             begins 1 (c .fall),
             begins 2 (c .hours),
@@ -90,7 +90,7 @@ module _ (s : List ℕ) where
   fits-of w most n i h e b = ap (fits w most) e ∙ fits-times w most n h b
 
   refusal2-measured : Chained s → (c : Case) → Measured s c → Counts c → refusal2File s ≡ false
-  unfolding refusal2File every width
+  unfolding refusal2File every
   refusal2-measured chained c m n = ⊎-elim as-old as-new (chained .forms)
     where
       unit : fits 32 1 (lengthAt s 0) ≡ true
@@ -102,12 +102,12 @@ module _ (s : List ℕ) where
       fall : fits 2 mostStages (lengthAt s 2) ≡ true
       fall = fits-of 2 mostStages (c .falls) 2 (omega arith) (length-word s 2 ∙ m .fall) (n .falls)
 
-      as-old : word s 0 ≡ 16 → refusal2File s ≡ false
+      as-old : word s 0 ≡ oldFront → refusal2File s ≡ false
       as-old e =
           let hours = fits-of 3 mostHours (c .hours) 3 (omega arith) (length-word s 3 ∙ m .old-hours e) (n .hours) in
           rw (first-old e, unit, rise, fall, hours)
 
-      as-new : word s 0 ≡ 20 → refusal2File s ≡ false
+      as-new : word s 0 ≡ front → refusal2File s ≡ false
       as-new e =
           let hours = fits-of 5 mostHours (c .hours) 3 (omega arith) (length-word s 3 ∙ m .hours e) (n .hours) in
           let form = fits-of 2 1 1 4 (omega arith) (length-word s 4 ∙ m .form e) (omega arith) in
@@ -130,7 +130,7 @@ module _ (s : List ℕ) where
         }
 
     -- the form number is the last two bytes
-    last-bytes : word s 0 ≡ 20 → formNumberAt s ≡ word s (length s - 2)
+    last-bytes : word s 0 ≡ front → formNumberAt s ≡ word s (length s - 2)
     unfolding formNumberAt sectionAt
     last-bytes first =
         let c = holds .chained in
@@ -147,9 +147,9 @@ module _ (s : List ℕ) where
     passes12 : FileLimited s 12 → refusal12 s ≡ false
     unfolding refusal12 unknown
     passes12 (file12 l) = ⊎-elim
-        (λ first. rw (eq-eqb (offsetAt s 0) 16 (offset-word s 0 ∙ first)))
+        (λ first. rw (eq-eqb (offsetAt s 0) oldFront (offset-word s 0 ∙ first)))
         (λ first. rw (
-          ne-eqb (offsetAt s 0) 16 (λ z. omega (arith, offset-word s 0)),
+          ne-eqb (offsetAt s 0) oldFront (λ z. omega (arith, offset-word s 0)),
           eq-eqb (formNumberAt s) 2 (last-bytes first ∙ l first),
         ))
         (holds .chained .forms)

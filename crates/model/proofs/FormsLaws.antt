@@ -11,13 +11,20 @@ use lib.IntN.{ℤ, pos, negsuc, natAbs, _-ℤ_}
 use lib.ListN.{length}
 use Rattle.laws.proofs.Signed.{up, down, parts-eq, parts--}
 use Rattle.model.specs.Limits.{longs, halfLongs}
-use Rattle.model.specs.Forms.{Form, unitWidths, oldForm, newest, numbered, formNumbered, unknown}
+use Rattle.model.specs.Forms.{Form, unitWidths, oldForm, newest, numbered, formNumbered, unknown, pairsLength}
 use Rattle.model.specs.Layout.{offsetAt, formNumberAt, formOf, signed, unsigned}
 
 -- ---- the form of a file
 -- the forms differ in the width of a price and in what follows the hours
 abbrev pub pricedForm : ℕ → Form → Form
 pricedForm w tail = unitWidths ∷ (2 ∷ []) ∷ (2 ∷ []) ∷ (w ∷ 1 ∷ []) ∷ tail
+
+-- where the unit begins in the old form, and in the newest
+abbrev pub oldFront : ℕ
+oldFront = pairsLength oldForm
+
+abbrev pub front : ℕ
+front = pairsLength (newest .1)
 
 -- a form that a file can have
 pub data Known : Form → Type 0 where
@@ -45,18 +52,18 @@ unknown-false n e = go (eqb n (newest .0)) refl e
     go true d e = eqb-true n (newest .0) d
     go false d e = absurd (true≢false (rw d at e))
 
-pub formOf-old : (file : List ℕ) → offsetAt file 0 ≡ 16 → formOf file ≡ oldForm
+pub formOf-old : (file : List ℕ) → offsetAt file 0 ≡ oldFront → formOf file ≡ oldForm
 unfolding formOf
-formOf-old file e = rw (eq-eqb (offsetAt file 0) 16 e)
+formOf-old file e = rw (eq-eqb (offsetAt file 0) oldFront e)
 
-pub formOf-new : (file : List ℕ) → (offsetAt file 0 ≡ 16 → ⊥) → formOf file ≡ newest .1
+pub formOf-new : (file : List ℕ) → (offsetAt file 0 ≡ oldFront → ⊥) → formOf file ≡ newest .1
 unfolding formOf
-formOf-new file h = rw (ne-eqb (offsetAt file 0) 16 h) (formNumbered-newest (formNumberAt file))
+formOf-new file h = rw (ne-eqb (offsetAt file 0) oldFront h) (formNumbered-newest (formNumberAt file))
 
 pub known : (file : List ℕ) → Known (formOf file)
-known file = go (ℕ-discrete (offsetAt file 0) 16)
+known file = go (ℕ-discrete (offsetAt file 0) oldFront)
   where
-    go : Dec (offsetAt file 0 ≡ 16) → Known (formOf file)
+    go : Dec (offsetAt file 0 ≡ oldFront) → Known (formOf file)
     go (yes e) = subst Known (sym (formOf-old file e)) old
     go (no h) = subst Known (sym (formOf-new file h)) new
 

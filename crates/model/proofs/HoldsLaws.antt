@@ -1,6 +1,6 @@
 -- The numbers of a file by its bytes: those of its sections stand at their offsets, so a whole file holds its record, and
 -- the file of a record within the limits holds that record. Assumes nothing.
-use mathlib.Core.Path.{_≡_, refl, sym, ap, _∙_, subst}
+use mathlib.Core.Path.{_≡_, sym, ap, _∙_, subst}
 use mathlib.Core.Logic.{inl, inr}
 use mathlib.Core.List.{List, [], _∷_}
 use Prim.Native.Nat.{ℕ, suc, _+_, _*_, _≤_, _<_}
@@ -9,11 +9,11 @@ use native.Mathlib.Nat.{mul-suc, mul-le-mul-left}
 use native.Mathlib.Numerals.{add-one}
 use native.Mathlib.Omega.{arith}
 use lib.IntN.{ℤ}
-use lib.ListN.{length, getD}
+use lib.ListN.{getD}
 use Rattle.model.specs.declared.Case.{Case}
 use Rattle.model.specs.declared.Output.{Output}
-use Rattle.model.specs.Limits.{mostStages, mostHours, halfLongs}
-use Rattle.model.specs.Forms.{Form, oldForm, newest, width, entryLength}
+use Rattle.model.specs.Limits.{mostStages, halfLongs}
+use Rattle.model.specs.Forms.{Form, unitWidths, oldForm, newest, width, entryLength}
 use Rattle.model.specs.Layout.{numberAt, offsetAt, lengthAt, endAt, padded, noOutput, noMills, signed, zeroed}
 use Rattle.model.specs.Layout.{bytesOf, sectionAt, fieldAt, formOf, entriesAt, entryAt, caseIn, caseOf}
 use Rattle.model.specs.Refusals.{refusalOf}
@@ -21,7 +21,7 @@ use Rattle.model.specs.Answers.{readOf, outcomeNumber}
 use Rattle.model.specs.Published.{word, long, Signed, above, below, Chained, Measured, Holds}
 use Rattle.model.proofs.LayoutLaws.{numberAt-suc, numberAt-part, getD-padded-in}
 use Rattle.model.proofs.NumbersLaws.{numberAt-one}
-use Rattle.model.proofs.FormsLaws.{pricedForm, formOf-old, formOf-new, signed-low, signed-high}
+use Rattle.model.proofs.FormsLaws.{pricedForm, oldFront, front, formOf-old, formOf-new, signed-low, signed-high}
 use Rattle.model.proofs.RereadLaws.{new-case, new-reads}
 use Rattle.model.proofs.AcceptedLaws.{Linked, Whole, read-accepted}
 use Rattle.model.proofs.CutLaws.{zeroed-caseOf, readOf-accepted}
@@ -86,16 +86,15 @@ module _ (w : ℕ) (tail : Form) (file : List ℕ) (whole : Whole (pricedForm w 
   section-word i k h = sym (numberAt-word file (word file (4 * i) + k)) ∙ section-number i k 2 h
 
   -- the lengths
-  unit-length : lengthAt file 0 ≡ 32
-  unfolding width
+  unit-length : lengthAt file 0 ≡ width unitWidths
   unit-length = omega (arith, whole .whole-entries 0 (omega arith), whole .entries-in 0 (omega arith))
 
   rise-length : lengthAt file 1 ≡ 2 * c .rises
-  unfolding width caseIn zeroed
+  unfolding caseIn zeroed
   rise-length = sym (whole .whole-entries 1 (omega arith)) ∙ ap (λ d. 2 * d .rises) e
 
   fall-length : lengthAt file 2 ≡ 2 * c .falls
-  unfolding width caseIn zeroed
+  unfolding caseIn zeroed
   fall-length = sym (whole .whole-entries 2 (omega arith)) ∙ ap (λ d. 2 * d .falls) e
 
   hours-length : lengthAt file 3 ≡ entryLength form 3 * c .hours
@@ -103,10 +102,10 @@ module _ (w : ℕ) (tail : Form) (file : List ℕ) (whole : Whole (pricedForm w 
   hours-length = sym (whole .whole-entries 3 (omega arith)) ∙ ap (λ d. entryLength form 3 * d .hours) e
 
   -- the unit
-  unit-word : (k : ℕ) → k + 2 ≤ 32 → word file (word file 0 + k) ≡ numberAt (sectionAt file 0) k 2
+  unit-word : (k : ℕ) → k + 2 ≤ width unitWidths → word file (word file 0 + k) ≡ numberAt (sectionAt file 0) k 2
   unit-word k h = section-word 0 k (omega (arith, unit-length))
 
-  unit-cost : (k : ℕ) {z : ℤ} → k + 4 ≤ 32 → signed (numberAt (sectionAt file 0) k 4) ≡ z
+  unit-cost : (k : ℕ) {z : ℤ} → k + 4 ≤ width unitWidths → signed (numberAt (sectionAt file 0) k 4) ≡ z
       → Signed (long file (word file 0 + k)) z
   unit-cost k h d =
       signed-of (sym (numberAt-long file (word file 0 + k)) ∙ section-number 0 k 4 (omega (arith, unit-length))) d
@@ -121,13 +120,13 @@ module _ (w : ℕ) (tail : Form) (file : List ℕ) (whole : Whole (pricedForm w 
       section-word i (2 * k) (omega arith) ∙ ap (λ x. x .0) (padded-entry noOutput _ _ d same room k h)
 
   rise-word : (k : ℕ) → k < c .rises → word file (word file 4 + 2 * k) ≡ getD (c .rise) k noOutput .0
-  unfolding caseIn zeroed entryAt fieldAt width
+  unfolding caseIn zeroed entryAt fieldAt
   rise-word =
       stage-word 1 (c .rises) (c .rise) rise-length (ap (λ d. d .rises) e) (whole .entries-in 1 (omega arith) .1)
       (ap (λ d. d .rise) e)
 
   fall-word : (k : ℕ) → k < c .falls → word file (word file 8 + 2 * k) ≡ getD (c .fall) k noOutput .0
-  unfolding caseIn zeroed entryAt fieldAt width
+  unfolding caseIn zeroed entryAt fieldAt
   fall-word =
       stage-word 2 (c .falls) (c .fall) fall-length (ap (λ d. d .falls) e) (whole .entries-in 2 (omega arith) .1)
       (ap (λ d. d .fall) e)
@@ -140,7 +139,7 @@ module _ (w : ℕ) (tail : Form) (file : List ℕ) (whole : Whole (pricedForm w 
 
   price-number : (k : ℕ) → k < c .hours
       → Signed (numberAt file (word file 12 + entryLength form 3 * k) w) (getD (c .prices) k noMills .0)
-  unfolding caseIn zeroed entryAt fieldAt width
+  unfolding caseIn zeroed entryAt fieldAt
   price-number k h =
       signed-of (section-number 3 (entryLength form 3 * k) w (omega (arith, hour-room k h)))
       (ap (λ m. m .0)
@@ -148,7 +147,7 @@ module _ (w : ℕ) (tail : Form) (file : List ℕ) (whole : Whole (pricedForm w 
 
   order-byte : (k : ℕ) → k < c .hours
       → getD file (word file 12 + (entryLength form 3 * k + w)) 0 ≡ getD (c .orders) k 0
-  unfolding caseIn zeroed entryAt fieldAt width
+  unfolding caseIn zeroed entryAt fieldAt
   order-byte k h =
       let at = entryLength form 3 * k + w in
       sym (numberAt-one file (word file 12 + at))
@@ -157,16 +156,16 @@ module _ (w : ℕ) (tail : Form) (file : List ℕ) (whole : Whole (pricedForm w 
 
   -- what both forms hold alike
   module _ (chained : Chained file) (measured : Measured file c)
-      (old-prices : word file 0 ≡ 16 → (i : ℕ) → i < c .hours
+      (old-prices : word file 0 ≡ oldFront → (i : ℕ) → i < c .hours
       → Signed (word file (word file 12 + 3 * i)) (getD (c .prices) i noMills .0))
-      (old-orders : word file 0 ≡ 16 → (i : ℕ) → i < c .hours
+      (old-orders : word file 0 ≡ oldFront → (i : ℕ) → i < c .hours
       → getD file (word file 12 + 3 * i + 2) 0 ≡ getD (c .orders) i 0)
-      (prices : word file 0 ≡ 20 → (i : ℕ) → i < c .hours
+      (prices : word file 0 ≡ front → (i : ℕ) → i < c .hours
       → Signed (long file (word file 12 + 5 * i)) (getD (c .prices) i noMills .0))
-      (orders : word file 0 ≡ 20 → (i : ℕ) → i < c .hours
+      (orders : word file 0 ≡ front → (i : ℕ) → i < c .hours
       → getD file (word file 12 + 5 * i + 4) 0 ≡ getD (c .orders) i 0) where
     holds-unit : Holds file c
-    unfolding caseIn zeroed entryAt fieldAt width
+    unfolding caseIn zeroed entryAt fieldAt
     holds-unit =
         record {
           chained = chained;
@@ -194,7 +193,7 @@ module _ (w : ℕ) (tail : Form) (file : List ℕ) (whole : Whole (pricedForm w 
 
 -- ---- the old form
 module _ (file : List ℕ) (l : Linked oldForm file) where
-  old-first : word file 0 ≡ 16
+  old-first : word file 0 ≡ oldFront
   old-first = sym (offset-word file 0) ∙ l .first
 
   old-chained : Chained file
@@ -211,23 +210,21 @@ module _ (file : List ℕ) (l : Linked oldForm file) where
       }
 
 module _ (file : List ℕ) (whole : Whole oldForm file) (c : Case) (e : caseIn oldForm file ≡ zeroed c) where
-  abbrev sixteen : word file 0 ≡ 16
-  sixteen = old-first file (whole .linked)
+  abbrev old-start : word file 0 ≡ oldFront
+  old-start = old-first file (whole .linked)
 
   old-measured : Measured file c
-  unfolding width
   old-measured =
       record {
         unit = sym (length-word file 0) ∙ unit-length 2 [] file whole c e;
         rise = sym (length-word file 1) ∙ rise-length 2 [] file whole c e;
         fall = sym (length-word file 2) ∙ fall-length 2 [] file whole c e;
         old-hours = λ z. sym (length-word file 3) ∙ hours-length 2 [] file whole c e;
-        hours = λ z. absurd (omega (arith, sixteen));
-        form = λ z. absurd (omega (arith, sixteen));
+        hours = λ z. absurd (omega (arith, old-start));
+        form = λ z. absurd (omega (arith, old-start));
       }
 
   old-holds : Holds file c
-  unfolding width
   old-holds =
       holds-unit 2 [] file whole c e (old-chained file (whole .linked)) old-measured
       (λ z i h. subst (λ n. Signed n (getD (c .prices) i noMills .0)) (numberAt-word file (word file 12 + 3 * i))
@@ -235,11 +232,11 @@ module _ (file : List ℕ) (whole : Whole oldForm file) (c : Case) (e : caseIn o
       (λ z i h.
       ap (λ at. getD file at 0) (let q : word file 12 + 3 * i + 2 ≡ word file 12 + (3 * i + 2) = omega arith in q)
       ∙ order-byte 2 [] file whole c e i h)
-      (λ z. absurd (omega (arith, sixteen))) (λ z. absurd (omega (arith, sixteen)))
+      (λ z. absurd (omega (arith, old-start))) (λ z. absurd (omega (arith, old-start)))
 
 -- ---- form 2
 module _ (file : List ℕ) (l : Linked (newest .1) file) where
-  new-first : word file 0 ≡ 20
+  new-first : word file 0 ≡ front
   new-first = sym (offset-word file 0) ∙ l .first
 
   new-chained : Chained file
@@ -259,30 +256,27 @@ module _ (file : List ℕ) (whole : Whole (newest .1) file) (c : Case) (e : case
   abbrev tail : Form
   tail = (2 ∷ []) ∷ []
 
-  abbrev twenty : word file 0 ≡ 20
-  twenty = new-first file (whole .linked)
+  abbrev new-start : word file 0 ≡ front
+  new-start = new-first file (whole .linked)
 
   form-length : lengthAt file 4 ≡ 2
-  unfolding width
   form-length = omega (arith, whole .whole-entries 4 (omega arith), whole .entries-in 4 (omega arith))
 
   new-measured : Measured file c
-  unfolding width
   new-measured =
       record {
         unit = sym (length-word file 0) ∙ unit-length 4 tail file whole c e;
         rise = sym (length-word file 1) ∙ rise-length 4 tail file whole c e;
         fall = sym (length-word file 2) ∙ fall-length 4 tail file whole c e;
-        old-hours = λ z. absurd (omega (arith, twenty));
+        old-hours = λ z. absurd (omega (arith, new-start));
         hours = λ z. sym (length-word file 3) ∙ hours-length 4 tail file whole c e;
         form = λ z. sym (length-word file 4) ∙ form-length;
       }
 
   new-holds : Holds file c
-  unfolding width
   new-holds =
       holds-unit 4 tail file whole c e (new-chained file (whole .linked)) new-measured
-      (λ z. absurd (omega (arith, twenty))) (λ z. absurd (omega (arith, twenty)))
+      (λ z. absurd (omega (arith, new-start))) (λ z. absurd (omega (arith, new-start)))
       (λ z i h. subst (λ n. Signed n (getD (c .prices) i noMills .0)) (numberAt-long file (word file 12 + 5 * i))
       (price-number 4 tail file whole c e i h))
       (λ z i h.
@@ -291,17 +285,17 @@ module _ (file : List ℕ) (whole : Whole (newest .1) file) (c : Case) (e : case
 
 -- ---- either form
 pub chained-of : (file : List ℕ) → Linked (formOf file) file → Chained file
-chained-of file l = go (ℕ-discrete (offsetAt file 0) 16)
+chained-of file l = go (ℕ-discrete (offsetAt file 0) oldFront)
   where
-    go : Dec (offsetAt file 0 ≡ 16) → Chained file
+    go : Dec (offsetAt file 0 ≡ oldFront) → Chained file
     go (yes d) = old-chained file (subst (λ f. Linked f file) (formOf-old file d) l)
     go (no d) = new-chained file (subst (λ f. Linked f file) (formOf-new file d) l)
 
 holds-of-caseOf : (file : List ℕ) → Whole (formOf file) file → (c : Case) → caseOf file ≡ zeroed c → Holds file c
 unfolding caseOf
-holds-of-caseOf file whole c e = go (ℕ-discrete (offsetAt file 0) 16)
+holds-of-caseOf file whole c e = go (ℕ-discrete (offsetAt file 0) oldFront)
   where
-    go : Dec (offsetAt file 0 ≡ 16) → Holds file c
+    go : Dec (offsetAt file 0 ≡ oldFront) → Holds file c
     go (yes d) =
         let is = formOf-old file d in
         old-holds file (subst (λ f. Whole f file) is whole) c (rw is at e)

@@ -1,14 +1,12 @@
 -- Two records that one file holds keep the same limits. Assumes nothing.
-use mathlib.Core.Path.{_≡_, refl, sym, ap, _∙_}
+use mathlib.Core.Path.{_≡_, refl, sym, _∙_}
 use mathlib.Core.Logic.{⊎-elim}
 use Prim.Native.Nat.{ℕ, zero, suc, _+_, _≤_, _<_}
 use native.Mathlib.Omega.{arith}
 use mathlib.Core.List.{List}
 use lib.IntN.{ℤ}
-use lib.ListN.{getD}
 use Rattle.model.specs.declared.Case.{Case}
 use Rattle.model.specs.Symbols.{stage, hourly, priced}
-use Rattle.model.specs.Layout.{noMills}
 use Rattle.model.specs.Published.{Counts, Costs, Trajectories, Opening, Orders, Prices, Limited, limit2, limit3}
 use Rattle.model.specs.Published.{limit4, limit5, limit6, limit7, limit8, limit13, Signed, above, below, Holds}
 

@@ -2,7 +2,7 @@
 -- file of form 2 is written as that file, and that of any file is read again. Assumes nothing.
 use mathlib.Core.Path.{_≡_, refl, sym, ap, _∙_, subst}
 use mathlib.Core.List.{List, _++_}
-use Prim.Native.Nat.{ℕ, _+_, _*_, _^_, _≤_, _<_}
+use Prim.Native.Nat.{ℕ, _+_, _*_, _-_, _^_, _≤_, _<_}
 use native.Mathlib.Omega.{arith}
 use lib.Dec.{leb→le}
 use lib.IntN.{ℤ, pos, negsuc}
@@ -12,12 +12,14 @@ use lib.Signed.{_≤ℤ_}
 use Rattle.model.specs.declared.Case.{Case}
 use Rattle.model.specs.declared.Outcome.the-variants.{Accepted}
 use Rattle.model.specs.declared.Written.the-variants.{Bytes, Refused}
+use Rattle.model.specs.Limits.{words}
 use Rattle.model.specs.Forms.{oldForm}
-use Rattle.model.specs.Layout.{AllBytes, noMills, unsigned, zeroed, fileOf, bytesOf, caseOf}
+use Rattle.model.specs.Layout.{AllBytes, noMills, unsigned, zeroed, fileOf, bytesOf}
 use Rattle.model.specs.Refusals.{refusalOf}
 use Rattle.model.specs.Answers.{Writing, readOf, writeOf, outcomeNumber, writtenNumbers}
 use Rattle.model.specs.Published.{word, above, Holds}
 use Rattle.model.specs.Promises.{WritesFile, WritesNone}
+use Rattle.model.proofs.FormsLaws.{oldFront, front}
 use Rattle.model.proofs.WrittenLaws.{length-fileOf}
 use Rattle.model.proofs.RereadLaws.{new-length, new-first, new-reads, old-reads as fileOf-reads}
 use Rattle.model.proofs.AcceptedLaws.{read-writes as fileOf-read, read-accepted, read-limits}
@@ -94,7 +96,7 @@ module _ (c : Case) (lent : List ℕ) where
       ∙ new-reads c e
 
 module _ (s : List ℕ) (accepted : readOf s .outcome ≡ Accepted) where
-  pub read-writes : (lent : List ℕ) → AllBytes s → word s 0 ≡ 20 → length s ≤ length lent
+  pub read-writes : (lent : List ℕ) → AllBytes s → word s 0 ≡ front → length s ≤ length lent
       → writeOf (readOf s .case) lent ≡ record { answer = Bytes (length s); lent = s ++ drop (length s) lent }
   read-writes lent a first room =
       let b = fileOf-read s a accepted (λ z. omega (arith, offset-word s 0)) in
@@ -114,7 +116,7 @@ module _ (s : List ℕ) (accepted : readOf s .outcome ≡ Accepted) where
       written-reads (readOf s .case) lent n ∙ (λ i. record { outcome = sym accepted i; case = zeroed-read i })
 
   -- a price of an old file
-  pub old-prices : AllBytes s → word s 0 ≡ 16 → (i : ℕ) → i < readOf s .case .hours
+  pub old-prices : AllBytes s → word s 0 ≡ oldFront → (i : ℕ) → i < readOf s .case .hours
       → getD (readOf s .case .prices) i noMills .0 ≡ pos (word s (word s 12 + 3 * i))
   old-prices a first i h =
       let at = word s 12 + 3 * i in
@@ -122,12 +124,12 @@ module _ (s : List ℕ) (accepted : readOf s .outcome ≡ Accepted) where
       (above (omega (arith, a .byte at, a .byte (at + 1))))
 
 -- a price from 0 to 65,535 has room in two bytes
-short-price : (z : ℤ) → (pos 0 ≤ℤ z) × (z ≤ℤ pos 65535) → unsigned z < 256 ^ 2
+short-price : (z : ℤ) → (pos 0 ≤ℤ z) × (z ≤ℤ pos (words - 1)) → unsigned z < 256 ^ 2
 unfolding unsigned
-short-price (pos n) h = omega (arith, leb→le n 65535 (h .1 .le))
+short-price (pos n) h = omega (arith, leb→le n (words - 1) (h .1 .le))
 short-price (negsuc n) h = absurd (h .0 .le)
 
 pub old-reads : (c : Case) → refusalOf c ≡ 0
-    → ((i : ℕ) → i < c .hours → (pos 0 ≤ℤ getD (c .prices) i noMills .0) × (getD (c .prices) i noMills .0 ≤ℤ pos 65535))
+    → ((i : ℕ) → i < c .hours → (pos 0 ≤ℤ getD (c .prices) i noMills .0) × (getD (c .prices) i noMills .0 ≤ℤ pos (words - 1)))
     → readOf (fileOf c oldForm) ≡ record { outcome = Accepted; case = zeroed c }
 old-reads c e low = fileOf-reads c e (λ k h. short-price (getD (c .prices) k noMills .0) (low k h))

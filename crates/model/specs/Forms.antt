@@ -42,7 +42,7 @@ unknown [] n = true
 unknown (f ∷ fs) n = not (eqb n (f .0)) && unknown fs n
 
 -- the bytes of an entry
-unfoldable pub width : List ℕ → ℕ
+abbrev pub width : List ℕ → ℕ
 width [] = 0
 width (w ∷ ws) = w + width ws
 

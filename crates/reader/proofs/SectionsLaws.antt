@@ -6,7 +6,7 @@ use Prim.Native.Nat.{ℕ, _+_, _*_, _-_, _≤_}
 use native.Mathlib.Omega.{arith}
 use lib.ListN.{length, getD}
 use Rattle.model.specs.Limits.{mostStages, mostHours}
-use Rattle.model.specs.Forms.{width, entryLength}
+use Rattle.model.specs.Forms.{unitWidths, width, entryLength}
 use Rattle.model.specs.Layout.{sectionAt, fieldAt, entriesAt, entryAt, caseIn}
 use Rattle.model.proofs.AcceptedLaws.{Whole, length-section}
 use Rattle.model.proofs.NumbersLaws.{numberAt-one}
@@ -20,7 +20,7 @@ module _ (file : List ℕ) where
       → assembled (sectionAt file 0) (trajectoryOf (sectionAt file 1)) (trajectoryOf (sectionAt file 2))
       (dayOf (tableOf f) (sectionAt file 3))
       ≡ caseIn (tableOf f) file
-  unfolding assembled trajectoryOf dayOf caseIn entriesAt entryAt fieldAt width
+  unfolding assembled trajectoryOf dayOf caseIn entriesAt entryAt fieldAt
   caseIn-sections Old w =
       rw (length-section w 1 (omega arith), length-section w 2 (omega arith), length-section w 3 (omega arith))
   caseIn-sections Two w =
@@ -28,13 +28,12 @@ module _ (file : List ℕ) where
 
   -- the bytes of each section
   pub record Sized (f : Form) : Type 0 where
-    pub unit : length (sectionAt file 0) ≡ 32
+    pub unit : length (sectionAt file 0) ≡ width unitWidths
     pub rise : length (sectionAt file 1) ≤ 2 * mostStages
     pub fall : length (sectionAt file 2) ≤ 2 * mostStages
     pub hours : length (sectionAt file 3) ≤ entryLength (tableOf f) 3 * mostHours
 
   pub sized : (f : Form) → Whole (tableOf f) file → Sized f
-  unfolding width
   sized Old w =
       let u = length-section w 0 (omega arith) in
       let r = length-section w 1 (omega arith) in
@@ -61,6 +60,6 @@ module _ (file : List ℕ) where
 -- the order byte is the last of an hour
 pub order-last : (f : Form) (part : List ℕ) (at : ℕ)
     → getD part (at + (entryLength (tableOf f) 3 - 1)) 0 ≡ fieldAt (getD (tableOf f) 3 []) part at 1
-unfolding width fieldAt
+unfolding fieldAt
 order-last Old part at = sym (numberAt-one part (at + 2))
 order-last Two part at = sym (numberAt-one part (at + 4))

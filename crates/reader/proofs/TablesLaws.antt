@@ -11,7 +11,7 @@ use lib.Dec.{eqb}
 use lib.ListN.{length, getD}
 use Rattle.laws.proofs.Tests.{either}
 use Rattle.model.specs.Limits.{mostStages}
-use Rattle.model.specs.Forms.{mostEntries, width, entryLength}
+use Rattle.model.specs.Forms.{mostEntries, entryLength}
 use Rattle.reader.specs.declared.forms.Form.{Form}
 use Rattle.reader.specs.declared.forms.Form.the-variants.{Old, Two}
 use Rattle.reader.specs.Tables.{tableOf}
@@ -25,12 +25,10 @@ sections-five Old = omega arith
 sections-five Two = omega arith
 
 pub entry-unit : (f : Form) (i : ℕ) → i ≡ 0 → 32 ≡ entryLength (tableOf f) i
-unfolding width
 entry-unit Old i e = rw e
 entry-unit Two i e = rw e
 
 pub entry-stage : (f : Form) (i : ℕ) → (i ≡ 0 → ⊥) → i < 3 → 2 ≡ entryLength (tableOf f) i
-unfolding width
 entry-stage f zero n h = absurd (n refl)
 entry-stage Old (suc zero) n h = refl
 entry-stage Two (suc zero) n h = refl
@@ -39,7 +37,6 @@ entry-stage Two (suc (suc zero)) n h = refl
 entry-stage f (suc (suc (suc i))) n h = absurd (omega arith)
 
 pub entry-form : (f : Form) (i : ℕ) → 3 < i → i < length (tableOf f) → 2 ≡ entryLength (tableOf f) i
-unfolding width
 entry-form Old i n h = absurd (omega arith)
 entry-form Two zero n h = absurd (omega arith)
 entry-form Two (suc zero) n h = absurd (omega arith)
@@ -49,7 +46,6 @@ entry-form Two (suc (suc (suc (suc zero)))) n h = refl
 entry-form Two (suc (suc (suc (suc (suc i))))) n h = absurd (omega arith)
 
 pub entry-some : (f : Form) (i : ℕ) → i < length (tableOf f) → 0 < entryLength (tableOf f) i
-unfolding width
 entry-some Old zero h = omega arith
 entry-some Old (suc zero) h = omega arith
 entry-some Old (suc (suc zero)) h = omega arith
@@ -64,7 +60,6 @@ entry-some Two (suc (suc (suc (suc (suc i))))) h = absurd (omega arith)
 
 -- the bytes of an hour
 pub hour-some : (f : Form) → 3 ≤ entryLength (tableOf f) 3
-unfolding width
 hour-some Old = omega arith
 hour-some Two = omega arith
 

@@ -6,7 +6,7 @@ ghost use mathlib.Core.List.{[]};
 ghost use Prim.Native.Nat.{_+_, _*_, _≤_};
 ghost use lib.ListN.{length, getD};
 ghost use Rattle.model.specs.Limits.{mostStages, mostHours};
-ghost use Rattle.model.specs.Forms.{entryLength};
+ghost use Rattle.model.specs.Forms.{unitWidths, width, entryLength};
 ghost use Rattle.model.specs.Layout.{signed, fieldAt, caseOf};
 ghost use Rattle.model.specs.Refusals.{refusal1, refusal2File};
 ghost use Rattle.reader.specs.Sections.{trajectoryOf, dayOf, assembled};
@@ -99,7 +99,7 @@ fn read_day(part: &[u8], form: Form) -> Day
 
 // The unit section, with what the other sections hold.
 fn read_unit(part: &[u8], rise: Trajectory, fall: Trajectory, day: Day) -> Case
-    requires { ⌜ length (now part) ≡ 32 ⌝ }
+    requires { ⌜ length (now part) ≡ width unitWidths ⌝ }
     ensures { λ r. ⌜ r ≡ assembled (now (part .entry)) rise fall day ⌝ }
 {
     let rises = rise.outputs;

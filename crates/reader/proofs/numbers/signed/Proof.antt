@@ -3,10 +3,10 @@ use borrow.Author.Needs.{needs}
 use mathlib.Core.Path.{_≡_, sym, _∙_}
 use Prim.Native.Nat.{ℕ, _-_, _<_, _≤_}
 use native.Mathlib.Omega.{arith}
-use lib.IntN.{ℤ, pos, negsuc, _-ℤ_}
+use lib.IntN.{pos, negsuc, _-ℤ_}
 use mir.Syntax.{w32}
-use mir.Val.{SFits, toZ, ofZ}
-use mir.Facts.{toZ-pos, toZ-neg, toZ-ofZ}
+use mir.Val.{SFits, toZ}
+use mir.Facts.{toZ-pos, toZ-ofZ}
 use Rattle.laws.proofs.Signed.{up, down, parts-eq, parts--}
 use Rattle.model.specs.Limits.{longs, halfLongs}
 use Rattle.model.specs.Layout.{signed}

@@ -1,11 +1,10 @@
 -- `reader::pairs::form_number` meets its contract. The fifth section lies within the file and is of two bytes. Assumes
 -- nothing.
-use mathlib.Core.Path.{_≡_, sym, ap, _∙_, subst}
-use Prim.Native.Nat.{_≤_}
+use mathlib.Core.Path.{sym, ap, _∙_, subst}
 use native.Mathlib.Omega.{arith}
 use lib.ListN.{length}
-use Rattle.model.specs.Forms.{newest, width}
-use Rattle.model.specs.Layout.{numberAt, formNumberAt, sectionAt}
+use Rattle.model.specs.Forms.{newest}
+use Rattle.model.specs.Layout.{numberAt, formNumberAt}
 use Rattle.model.proofs.AcceptedLaws.{Whole, whole, ends, length-section}
 use Rattle.reader.proofs.pairs.form_number.Statement.{statement}
 use Rattle.reader.proofs.pairs.form_number.Tie as tie
@@ -22,7 +21,6 @@ section-requires c κs =
     (omega (arith, w .linked .long), ends w 4 (omega arith))
 
 word-requires : tie.Need-word-requires
-unfolding width
 word-requires c κs =
     let w = five (c .before .before) in
     omega (

@@ -3,7 +3,7 @@ use borrow.Author.Needs.{needs}
 use mathlib.Core.Path.{_≡_, refl, sym, ap, _∙_}
 use mathlib.Core.Bool.{Bool, true, false, not, _&&_}
 use mathlib.Core.List.{List}
-use Prim.Native.Nat.{ℕ, _≤_}
+use Prim.Native.Nat.{ℕ}
 use native.Mathlib.Omega.{arith}
 use lib.Dec.{eqb}
 use lib.ListN.{length}
@@ -11,8 +11,8 @@ use borrow.Author.Tests.{eq-eqb, ne-eqb}
 use Rattle.model.specs.Forms.{oldForm, newest, unknown}
 use Rattle.model.specs.Layout.{offsetAt, formNumberAt, formOf}
 use Rattle.model.specs.Refusals.{refusal1, refusal12}
-use Rattle.model.proofs.FormsLaws.{four-sections, known}
-use Rattle.model.proofs.AcceptedLaws.{Linked, linked}
+use Rattle.model.proofs.FormsLaws.{oldFront, front, four-sections, known}
+use Rattle.model.proofs.AcceptedLaws.{linked}
 use Rattle.reader.specs.Tables.{tableOf}
 use Rattle.reader.proofs.pairs.refusal12.Statement.{statement}
 use Rattle.reader.proofs.pairs.refusal12.Tie as tie
@@ -22,14 +22,14 @@ module _ (file : List ℕ) (e : refusal1 file ≡ false) where
   old-none : oldForm ≡ formOf file → false ≡ refusal12 file
   unfolding refusal12
   old-none is =
-      let first : offsetAt file 0 ≡ 16 = omega (arith, linked file e .first, ap length is) in
-      rw (eq-eqb (offsetAt file 0) 16 first)
+      let first : offsetAt file 0 ≡ oldFront = omega (arith, linked file e .first, ap length is) in
+      rw (eq-eqb (offsetAt file 0) oldFront first)
 
   new-unknown : newest .1 ≡ formOf file → (n : ℕ) → n ≡ formNumberAt file → not (eqb n 2) ≡ refusal12 file
   unfolding refusal12 unknown
   new-unknown is n number =
-      let first : offsetAt file 0 ≡ 20 = omega (arith, linked file e .first, ap length is) in
-      rw (ne-eqb (offsetAt file 0) 16 (λ z. omega arith), number) (sym (and-true (not (eqb (formNumberAt file) 2))))
+      let first : offsetAt file 0 ≡ front = omega (arith, linked file e .first, ap length is) in
+      rw (ne-eqb (offsetAt file 0) oldFront (λ z. omega arith), number) (sym (and-true (not (eqb (formNumberAt file) 2))))
     where
       and-true : (t : Bool) → (t && true) ≡ t
       and-true true = refl

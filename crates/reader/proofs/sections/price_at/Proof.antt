@@ -2,23 +2,20 @@
 use borrow.Author.Needs.{needs}
 use mathlib.Core.Path.{sym, ap, _∙_}
 use mathlib.Core.List.{[]}
-use Prim.Native.Nat.{_+_, _≤_}
 use native.Mathlib.Omega.{arith}
-use lib.ListN.{length, getD}
-use Rattle.model.specs.Forms.{width, entryLength}
+use lib.ListN.{getD}
+use Rattle.model.specs.Forms.{entryLength}
 use Rattle.model.specs.Layout.{signed, fieldAt}
 use Rattle.reader.specs.Tables.{tableOf}
 use Rattle.reader.proofs.sections.price_at.Statement.{statement}
 use Rattle.reader.proofs.sections.price_at.Tie as tie
 
 short-mills-requires : tie.Need-short-mills-requires
-unfolding width
 short-mills-requires c κs =
     let s = c .before .before .before in
     omega (arith, s .pre, ap (λ f. entryLength (tableOf f) 3) (c .enum-told .given .1))
 
 mills-requires : tie.Need-mills-requires
-unfolding width
 mills-requires c κs =
     let s = c .before .before .before in
     omega (arith, s .pre, ap (λ f. entryLength (tableOf f) 3) (c .enum-told2 .given .1))
