@@ -13,7 +13,7 @@ use Rattle.model.specs.declared.Case.{Case}
 use Rattle.model.specs.declared.Outcome.the-variants.{Accepted}
 use Rattle.model.specs.declared.Written.the-variants.{Bytes, Refused}
 use Rattle.model.specs.Limits.{words}
-use Rattle.model.specs.Forms.{oldForm}
+use Rattle.model.specs.Forms.{unitWidths, oldForm, width}
 use Rattle.model.specs.Layout.{AllBytes, noMills, unsigned, zeroed, fileOf, bytesOf}
 use Rattle.model.specs.Refusals.{refusalOf}
 use Rattle.model.specs.Answers.{Writing, readOf, writeOf, outcomeNumber, writtenNumbers}
@@ -41,7 +41,7 @@ unfiled-none {n} {lent} e = subst (WritesNone n lent) e (record { numbers = refl
 
 -- the length of the file of a case
 abbrev fileLength : Case → ℕ
-fileLength c = 54 + 2 * c .rises + 2 * c .falls + 5 * c .hours
+fileLength c = front + width unitWidths + 2 + 2 * c .rises + 2 * c .falls + 5 * c .hours
 
 pub length-bytesOf : (c : Case) → length (bytesOf c) ≡ fileLength c
 length-bytesOf c = length-fileOf c _ ∙ new-length c

@@ -17,7 +17,7 @@ use Rattle.reader.proofs.numbers.signed.Tie as tie
 -- bits of the upper half
 module _ (n : ℕ) (high : halfLongs ≤ n) (fits : n < longs) where
   abbrev rest : ℕ
-  rest = 4294967295 - n
+  rest = longs - 1 - n
 
   below : negsuc 0 -ℤ pos rest ≡ negsuc rest
   unfolding up down
@@ -39,7 +39,7 @@ module _ (c : tie.Else1) where
   small : bits < longs
   small = c .before .fits .bits .fits
 
-  lower : toZ w32 (4294967295 - bits) ≡ pos (4294967295 - bits)
+  lower : toZ w32 (longs - 1 - bits) ≡ pos (longs - 1 - bits)
   lower = toZ-pos w32 (omega arith)
 
 returns : tie.Need-returns
