@@ -3,10 +3,11 @@ ghost use mathlib.Core.Path.{_≡_};
 ghost use Prim.Native.Nat.{_≤_};
 ghost use lib.ListN.{getD};
 ghost use Rattle.model.specs.Limits.{mostStages, mostHours};
-ghost use Rattle.model.specs.Layout.{padded, noOutput, zeroed};
+ghost use Rattle.model.specs.Layout.{padded, noOutput, noMills, zeroed};
 ghost use Rattle.model.specs.Refusals.{refusalOf};
 use model::Case;
 use model::HOURS;
+use model::Mills;
 use model::Output;
 use model::STAGES;
 
@@ -26,14 +27,15 @@ fn first_outputs(outputs: [Output; STAGES], n: usize) -> [Output; STAGES]
 }
 
 // The first n prices, and zero past them.
-fn first_prices(prices: [u16; HOURS], n: usize) -> [u16; HOURS]
+fn first_prices(prices: [Mills; HOURS], n: usize) -> [Mills; HOURS]
     requires { ⌜ n ≤ mostHours ⌝ }
-    ensures { λ r. ⌜ r ≡ padded 0 (λ i. getD prices i 0) n mostHours ⌝ }
+    ensures { λ r. ⌜ r ≡ padded noMills (λ i. getD prices i noMills) n mostHours ⌝ }
 {
-    let mut first = [0u16; HOURS];
+    let mut first = [Mills(0); HOURS];
     let mut i = 0;
     while i < n {
-        first[i] = prices[i];
+        let price = prices[i];
+        first[i] = price;
         i += 1;
     }
     first

@@ -1,6 +1,6 @@
 // Reads a case file, writes one, and admits a case record: model's specs/Answers say what each answers and leaves.
-// Nothing outside the published limits is accepted: a file is refused by 1 to 8, a record by 2 to 8, and a writing
-// with too few bytes lent by 10. A refusal leaves the lent bytes as they are.
+// Nothing outside the published limits is accepted: a file is refused by 1, 2, 12, 3 to 8 and 13, a record by 2 to 8
+// and 13, and a writing with too few bytes lent by 10. A refusal leaves the lent bytes as they are.
 mod entries;
 
 ghost use mathlib.Core.Path.{_≡_};
@@ -9,6 +9,7 @@ ghost use Rattle.model.specs.Answers.{readingOf, readOf, admitOf, writeOf};
 use model::Case;
 use model::HOURS;
 use model::Hour;
+use model::Mills;
 use model::Outcome;
 use model::Output;
 use model::Reading;
@@ -26,15 +27,15 @@ fn blank() -> Case
         rampdown: Output(0),
         minup: Hour(0),
         mindown: Hour(0),
-        variable: 0,
-        fixed: 0,
-        startcost: 0,
-        stopcost: 0,
+        variable: Mills(0),
+        fixed: Mills(0),
+        startcost: Mills(0),
+        stopcost: Mills(0),
         initial: Output(0),
         elapsed: Hour(0),
         rise: [Output(0); STAGES],
         fall: [Output(0); STAGES],
-        prices: [0u16; HOURS],
+        prices: [Mills(0); HOURS],
         orders: [0u8; HOURS],
         rises: 0,
         falls: 0,
@@ -58,7 +59,8 @@ fn reading_of(number: u8, case: Case) -> Reading
     }
 }
 
-// The case of a file, with the entries past its counts zero, or the first refusal from 1 to 8 that applies.
+// The case of a file, with the entries past its counts zero, or the first refusal of 1, 2, 12, 3 to 8 and 13 that
+// applies.
 pub fn read(file: &[u8]) -> Reading
     ensures { λ r. ⌜ r ≡ readOf (now (file .entry)) ⌝ }
 {
@@ -68,11 +70,14 @@ pub fn read(file: &[u8]) -> Reading
     if reader::pairs::refusal2_file(file) {
         return reading_of(2, blank());
     }
+    if reader::pairs::refusal12(file) {
+        return reading_of(12, blank());
+    }
     let case = reader::sections::case_of(file);
     reading_of(limits::refusal_of(case), case)
 }
 
-// A record, with the entries past its counts zero, or the first refusal from 2 to 8 that applies.
+// A record, with the entries past its counts zero, or the first refusal of 2 to 8 and 13 that applies.
 pub fn admit(case: Case) -> Reading
     ensures { λ r. ⌜ r ≡ admitOf case ⌝ }
 {
@@ -84,7 +89,7 @@ pub fn admit(case: Case) -> Reading
 }
 
 // Writes the file of a record to the front of the lent bytes and returns its length; the bytes past it stay. On a
-// refusal, the first from 2 to 8 that applies or 10, every lent byte stays.
+// refusal, the first of 2 to 8, 13 and 10 that applies, every lent byte stays.
 pub fn write(case: Case, bytes: &mut [u8]) -> Written
     ensures { λ r. ⌜ r ≡ (writeOf case (now (bytes .entry))) .answer ⌝ }
     ensures { λ _. ⌜ now (bytes .exit) ≡ (writeOf case (now (bytes .entry))) .lent ⌝ }

@@ -8,7 +8,6 @@ use borrow.Author.Needs.{needs}
 use Rattle.model.specs.declared.Written.the-variants.{Bytes, Refused}
 use Rattle.model.specs.Layout.{bytesOf}
 use Rattle.model.specs.Refusals.{refusalOf}
-use Rattle.model.proofs.WrittenLaws.{length-bytesOf}
 use Rattle.model.proofs.CodecLaws.{writeOf-refused, writeOf-short, writeOf-done}
 use Rattle.codec.proofs.write.Statement.{statement}
 use Rattle.codec.proofs.write.Tie as tie
@@ -46,9 +45,7 @@ returns-2 c =
     (ap (λ w. w .answer) e, ap (λ w. w .lent) e)
 
 put-case-requires : tie.Need-put-case-requires
-put-case-requires c κs =
-    let here = c .before in
-    (within (here .before .before), omega (arith, room here, length-bytesOf (start here .args .case)))
+put-case-requires c κs = let here = c .before in (within (here .before .before), room here)
 
 same-length : tie.Need-same-length
 same-length c = search needs

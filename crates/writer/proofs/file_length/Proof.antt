@@ -1,35 +1,30 @@
 -- `writer::file_length` meets its contract. The sum is that of the sections' lengths, and fits. Assumes nothing.
 use native.Mathlib.Omega.{arith}
-use Rattle.model.proofs.LimitsLaws.{Limits, limits-of-refusalOf}
-use Rattle.model.proofs.WrittenLaws.{length-bytesOf}
+use Rattle.model.proofs.TripLaws.{length-bytesOf}
+use Rattle.writer.proofs.SectionsLaws.{file-short}
 use Rattle.writer.proofs.file_length.Statement.{statement}
 use Rattle.writer.proofs.file_length.Tie as tie
 
--- the record is within the limits
-limits : (s : tie.Start) → Limits (s .args .case)
-limits s = limits-of-refusalOf (s .args .case) (s .pre)
-
 mul-result : tie.Need-mul-result
-mul-result c = omega (arith, limits (c .before) .rises-le)
+mul-result c = omega (arith, file-short (c .before .args .case) (c .before .pre))
 
 add-result : tie.Need-add-result
-add-result c = omega (arith, limits (c .before) .rises-le)
+add-result c = omega (arith, file-short (c .before .args .case) (c .before .pre))
 
 mul-result-2 : tie.Need-mul-result-2
-mul-result-2 c = omega (arith, limits (c .before .before) .falls-le)
+mul-result-2 c = let s = c .before .before in omega (arith, file-short (s .args .case) (s .pre))
 
 add-result-2 : tie.Need-add-result-2
-add-result-2 c =
-    let s = c .before .before in
-    omega (arith, limits s .rises-le, limits s .falls-le)
+add-result-2 c = let s = c .before .before in omega (arith, file-short (s .args .case) (s .pre))
 
 mul-result-3 : tie.Need-mul-result-3
-mul-result-3 c = omega (arith, limits (c .before .before .before) .hours-le)
+mul-result-3 c = let s = c .before .before .before in omega (arith, file-short (s .args .case) (s .pre))
 
 add-result-3 : tie.Need-add-result-3
-add-result-3 c =
-    let s = c .before .before .before in
-    omega (arith, limits s .rises-le, limits s .falls-le, limits s .hours-le)
+add-result-3 c = let s = c .before .before .before in omega (arith, file-short (s .args .case) (s .pre))
+
+add-result-4 : tie.Need-add-result-4
+add-result-4 c = let s = c .before .before .before in omega (arith, file-short (s .args .case) (s .pre))
 
 returns : tie.Need-returns
 returns c = omega (arith, length-bytesOf (c .before .before .before .args .case))
@@ -37,4 +32,12 @@ returns c = omega (arith, length-bytesOf (c .before .before .before .args .case)
 pub file-length-spec : {M : Type 1} → statement M
 file-length-spec =
     tie.close
-    (tie.spec mul-result add-result mul-result-2 add-result-2 mul-result-3 add-result-3 returns)
+    (tie.spec
+    mul-result
+    add-result
+    mul-result-2
+    add-result-2
+    mul-result-3
+    add-result-3
+    add-result-4
+    returns)

@@ -1,20 +1,22 @@
 -- `writer::put_stages` meets its contract. The invariant: the first i outputs are written, and every other
 -- byte is as it was. Assumes nothing.
 use mathlib.Core.Path.{_≡_, refl, ap, _∙_}
+use mathlib.Core.List.{[], _∷_}
 use Prim.Native.Nat.{_-_, _≤_}
 use native.Mathlib.Omega.{arith}
 use lib.ListN.{length, getD}
 use lib.Seq.{sets}
-use Rattle.model.specs.Limits.{stageWidth}
-use Rattle.model.specs.Layout.{bytes, joined, noOutput}
-use Rattle.model.proofs.LayoutLaws.{length-bytes}
-use Rattle.model.proofs.SetsLaws.{sets-start, sets-step, sets-end, stageBytes-joined}
+use Rattle.model.specs.Layout.{joined, noOutput, fieldBytes}
+use Rattle.model.proofs.FieldsLaws.{length-fieldBytes}
+use Rattle.model.proofs.SetsLaws.{sets-start, sets-step, sets-end, one-field}
 use Rattle.writer.proofs.put_stages.Statement.{statement}
 use Rattle.writer.proofs.put_stages.Tie as tie
 
 abbrev Inv-loop : tie.InvT-loop
 Inv-loop out₀ at n outputs i₀ out i =
-    (i ≤ n) × (length out ≡ length out₀) × (out ≡ sets out₀ at (joined (λ i. bytes 2 (getD outputs i noOutput .0)) i))
+    (i ≤ n)
+    × (length out ≡ length out₀)
+    × (out ≡ sets out₀ at (joined (λ k. fieldBytes (2 ∷ []) (getD outputs k noOutput .0 ∷ [])) i))
 
 abbrev μ-loop : tie.MeasureT-loop
 μ-loop out₀ at n outputs i₀ out i = n - i
@@ -51,8 +53,8 @@ loop-again c =
     let outputs = s .args .t3 in (
       omega arith,
       call .put-word .kept .0 ∙ l .inv .1,
-      sets-step stageWidth _ (λ i. length-bytes 2 (getD outputs i noOutput .0)) (s .args .out .now) (s .args .at) (l .i)
-          (l .inv .2) (call .put-word .ensures),
+      sets-step 2 _ (λ k. length-fieldBytes (2 ∷ []) (getD outputs k noOutput .0 ∷ [])) (s .args .out .now) (s .args .at) (l .i)
+          (l .inv .2) (call .put-word .ensures ∙ ap (sets _ _) (one-field 2 (getD outputs (l .i) noOutput .0))),
     )
 
 same-length : tie.Need-same-length Inv-loop μ-loop
@@ -63,7 +65,6 @@ returns c =
     let s = c .before .before .before in
     let l = c .before .loop in
     sets-end _ (s .args .out .now) (s .args .at) (l .i) (s .args .n) (l .inv .2) (omega arith)
-    ∙ ap (sets (s .args .out .now) (s .args .at)) (stageBytes-joined (s .args .t3) (s .args .n))
 
 pub put-stages-spec : {M : Type 1} → statement M
 put-stages-spec =

@@ -19,17 +19,17 @@ add-put-pair-2 c = search needs
 put-pair-requires-3 : tie.Need-put-pair-requires-3
 put-pair-requires-3 c κs = search needs
 
-add-put-longs : tie.Need-add-put-longs
-add-put-longs c = search needs
+add-put-costs : tie.Need-add-put-costs
+add-put-costs c = search needs
 
-put-longs-requires : tie.Need-put-longs-requires
-put-longs-requires c κs = search needs
+put-costs-requires : tie.Need-put-costs-requires
+put-costs-requires c κs = search needs
 
-add-put-longs-2 : tie.Need-add-put-longs-2
-add-put-longs-2 c = search needs
+add-put-costs-2 : tie.Need-add-put-costs-2
+add-put-costs-2 c = search needs
 
-put-longs-requires-2 : tie.Need-put-longs-requires-2
-put-longs-requires-2 c κs = search needs
+put-costs-requires-2 : tie.Need-put-costs-requires-2
+put-costs-requires-2 c κs = search needs
 
 add-put-pair-3 : tie.Need-add-put-pair-3
 add-put-pair-3 c = search needs
@@ -50,7 +50,7 @@ returns c =
     let one = two .before .before .before .before in
     let args = one .before .before .before .args in
     unit-written (args .case) (args .out .now) (one .put-pair .ensures) (two .put-pair2 .ensures)
-    (three .put-pair3 .ensures) (four .put-longs .ensures) (five .put-longs2 .ensures) (six .put-pair4 .ensures)
+    (three .put-pair3 .ensures) (four .put-costs .ensures) (five .put-costs2 .ensures) (six .put-pair4 .ensures)
 
 pub put-unit-spec : {M : Type 1} → statement M
 put-unit-spec =
@@ -61,10 +61,10 @@ put-unit-spec =
     put-pair-requires-2
     add-put-pair-2
     put-pair-requires-3
-    add-put-longs
-    put-longs-requires
-    add-put-longs-2
-    put-longs-requires-2
+    add-put-costs
+    put-costs-requires
+    add-put-costs-2
+    put-costs-requires-2
     add-put-pair-3
     put-pair-requires-4
     same-length

@@ -1,0 +1,2 @@
+-- Laws of what the crate writes.
+pub mod SectionsLaws
