@@ -1,21 +1,26 @@
-// The refusals of a record, 2 to 8: one test for each number, and the first that applies (model's specs/Refusals).
+// The refusals of a record, 2 to 8 and 13: one test for each number, and the first that applies (model's
+// specs/Refusals).
 ghost use mathlib.Core.Bool.{false, cond};
 ghost use mathlib.Core.Path.{_≡_};
 ghost use Prim.Native.Nat.{suc, _≤_, _<_};
-ghost use lib.Dec.{leb};
-ghost use Rattle.model.specs.Limits.{mostStages, mostHours, mostOrder};
-ghost use Rattle.model.specs.Symbols.{every, stage, hourly};
-ghost use Rattle.model.specs.Refusals.{within, refusal2, refusal3, refusal4, refusal5, refusal6, refusal7, refusal8};
-ghost use Rattle.model.specs.Refusals.{climbs, descends, refusalOf};
+ghost use lib.Dec.{leb, ltb};
+ghost use lib.IntN.{pos, negℤ};
+ghost use Rattle.model.specs.Limits.{mostStages, mostHours, mostPrice, mostOrder};
+ghost use Rattle.model.specs.Symbols.{every, stage, hourly, priced};
+ghost use Rattle.model.specs.Refusals.{within, amounts, refusal2, refusal3, refusal4, refusal5, refusal6, refusal7};
+ghost use Rattle.model.specs.Refusals.{refusal8, refusal13, climbs, descends, refusalOf};
 ghost use Rattle.limits.specs.Steps.{stepped};
 use model::Case;
 use model::HOURS;
+use model::Hour;
 use model::MOST_CHARGE;
 use model::MOST_ELAPSED;
 use model::MOST_ORDER;
 use model::MOST_OUTPUT;
+use model::MOST_PRICE;
 use model::MOST_TIME;
 use model::MOST_VARIABLE;
+use model::Mills;
 use model::Output;
 use model::STAGES;
 
@@ -31,6 +36,13 @@ fn between(x: u16, least: u16, most: u16) -> bool
     ensures { λ r. ⌜ r ≡ within least most x ⌝ }
 {
     (least <= x) & (x <= most)
+}
+
+// The same of amounts.
+fn amounts(x: Mills, least: Mills, most: Mills) -> bool
+    ensures { λ r. ⌜ r ≡ amounts (least .0) (most .0) (x .0) ⌝ }
+{
+    (least.0 <= x.0) & (x.0 <= most.0)
 }
 
 // A count.
@@ -57,13 +69,15 @@ fn refusal4(case: Case) -> bool
     !(up & (down & times))
 }
 
-// Money.
+// Costs.
 fn refusal5(case: Case) -> bool
     ensures { λ r. ⌜ r ≡ refusal5 case ⌝ }
 {
-    let charges = (case.fixed <= MOST_CHARGE)
-        & ((case.startcost <= MOST_CHARGE) & (case.stopcost <= MOST_CHARGE));
-    !((case.variable <= MOST_VARIABLE) & charges)
+    let energy = amounts(case.variable, Mills(0), Mills(MOST_VARIABLE));
+    let hour = amounts(case.fixed, Mills(0), Mills(MOST_CHARGE));
+    let start = amounts(case.startcost, Mills(0), Mills(MOST_CHARGE));
+    let stop = amounts(case.stopcost, Mills(0), Mills(MOST_CHARGE));
+    !(energy & (hour & (start & stop)))
 }
 
 // One test where `up` is true, and else the other.
@@ -121,15 +135,21 @@ fn refusal6(case: Case) -> bool
     !(climbs(case) & descends(case))
 }
 
+// Whether these hours are fewer than a count.
+fn fewer(hours: Hour, n: usize) -> bool
+    ensures { λ r. ⌜ r ≡ ltb (hours .0) n ⌝ }
+{
+    (hours.0 as usize) < n
+}
+
 // h, p(0), and p(0) above 0 with h below UD.
 fn refusal7(case: Case) -> bool
     ensures { λ r. ⌜ r ≡ refusal7 case ⌝ }
 {
     let output = case.initial.0;
-    let elapsed = case.elapsed.0;
     let open = (output == 0) | between(output, case.minimum.0, case.capacity.0);
-    !between(elapsed, 1, MOST_ELAPSED)
-        | (!open | ((0 < output) & ((elapsed as usize) < case.rises)))
+    !between(case.elapsed.0, 1, MOST_ELAPSED)
+        | (!open | ((0 < output) & fewer(case.elapsed, case.rises)))
 }
 
 // Whether each of the first n order bytes is 0, 1 or 2.
@@ -155,6 +175,29 @@ fn refusal8(case: Case) -> bool
     !ordered(orders, case.hours)
 }
 
+// Whether each of the first n prices is from the least to the most.
+fn bounded(prices: [Mills; HOURS], n: usize) -> bool
+    requires { ⌜ n ≤ mostHours ⌝ }
+    ensures { λ r. ⌜ r ≡ every (λ k. amounts (negℤ (pos mostPrice)) (pos mostPrice) (priced prices k)) n ⌝ }
+{
+    let mut so = true;
+    let mut i = 0;
+    while i < n {
+        so = so & amounts(prices[i], Mills(-MOST_PRICE), Mills(MOST_PRICE));
+        i += 1;
+    }
+    so
+}
+
+// The prices of the day.
+fn refusal13(case: Case) -> bool
+    requires { ⌜ refusal2 case ≡ false ⌝ }
+    ensures { λ r. ⌜ r ≡ refusal13 case ⌝ }
+{
+    let prices = case.prices;
+    !bounded(prices, case.hours)
+}
+
 // The number where its test applies, and else what the tests after it give.
 fn first_of(applies: bool, number: u8, rest: u8) -> u8
     ensures { λ r. ⌜ r ≡ cond applies number rest ⌝ }
@@ -162,7 +205,7 @@ fn first_of(applies: bool, number: u8, rest: u8) -> u8
     if applies { number } else { rest }
 }
 
-// The number of a record's refusal, 2 to 8; 0 where it is within the limits.
+// The number of a record's refusal, 2 to 8 or 13; 0 where it is within the limits.
 pub fn refusal_of(case: Case) -> u8
     ensures { λ r. ⌜ r ≡ refusalOf case ⌝ }
 {
@@ -175,6 +218,8 @@ pub fn refusal_of(case: Case) -> u8
     let six = refusal6(case);
     let seven = refusal7(case);
     let eight = refusal8(case);
-    let from6 = first_of(six, 6, first_of(seven, 7, first_of(eight, 8, 0)));
+    let thirteen = refusal13(case);
+    let from7 = first_of(seven, 7, first_of(eight, 8, first_of(thirteen, 13, 0)));
+    let from6 = first_of(six, 6, from7);
     first_of(three, 3, first_of(four, 4, first_of(five, 5, from6)))
 }

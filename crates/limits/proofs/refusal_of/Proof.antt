@@ -1,5 +1,5 @@
--- `limits::refusal_of` meets its contract. Where 2 does not apply the trajectories and orders can be tested; the
--- numbers then come one after the other. Assumes nothing.
+-- `limits::refusal_of` meets its contract. Where 2 does not apply the trajectories, orders and prices can be tested;
+-- the numbers then come one after the other. Assumes nothing.
 use mathlib.Core.Path.{_≡_, sym, _∙_}
 use mathlib.Core.Bool.{false}
 use Rattle.model.specs.declared.Case.{Case}
@@ -41,6 +41,11 @@ refusal8-requires c κs =
     let s = c .before .before .before .before .before in
     off2 s
 
+refusal13-requires : tie.Need-refusal13-requires
+refusal13-requires c κs =
+    let s = c .before .before .before .before .before .before in
+    off2 s
+
 first-of-requires : tie.Need-first-of-requires
 first-of-requires c κs = tt
 
@@ -59,18 +64,22 @@ first-of-requires-5 c κs = tt
 first-of-requires-6 : tie.Need-first-of-requires-6
 first-of-requires-6 c κs = tt
 
+first-of-requires-7 : tie.Need-first-of-requires-7
+first-of-requires-7 c κs = tt
+
 returns-2 : tie.Need-returns-2
 returns-2 c =
-    let third = c .before .before .before in
-    let eight = third .before .before .before in
+    let from6 = c .before .before .before in
+    let from13 = from6 .before .before .before in
+    let eight = from13 .before .before in
     let six = eight .before .before in
     let four = six .before .before in
     let here = four .before .before in
     refusalOf-chain (case here) (off2 here) (four .before .refusal3 .ensures) (four .refusal4 .ensures)
     (six .before .refusal5 .ensures) (six .refusal6 .ensures) (eight .before .refusal7 .ensures)
-    (eight .refusal8 .ensures) (third .before .before .first-of .ensures) (third .before .first-of2 .ensures)
-    (third .first-of3 .ensures) (c .before .before .first-of4 .ensures) (c .before .first-of5 .ensures)
-    (c .first-of6 .ensures)
+    (eight .refusal8 .ensures) (from13 .before .refusal13 .ensures) (from13 .first-of .ensures)
+    (from6 .before .before .first-of2 .ensures) (from6 .before .first-of3 .ensures) (from6 .first-of4 .ensures)
+    (c .before .before .first-of5 .ensures) (c .before .first-of6 .ensures) (c .first-of7 .ensures)
 
 pub refusal-of-spec : {M : Type 1} → statement M
 refusal-of-spec =
@@ -84,10 +93,12 @@ refusal-of-spec =
     refusal6-requires
     refusal7-requires
     refusal8-requires
+    refusal13-requires
     first-of-requires
     first-of-requires-2
     first-of-requires-3
     first-of-requires-4
     first-of-requires-5
     first-of-requires-6
+    first-of-requires-7
     returns-2)
