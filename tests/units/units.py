@@ -12,7 +12,7 @@ import sys
 
 ROOT = pathlib.Path(__file__).resolve().parents[2]
 
-NUMBER = "u8|u16|u32|u64|usize|i64"
+NUMBER = "u8|u16|u32|u64|usize|i8|i16|i32|i64|isize"
 COMMENT = re.compile(r"//.*")
 CLAUSE = re.compile(r"⌜.*?⌝", re.DOTALL)
 CONSTANT = re.compile(r"^\s*(?:pub )?const .*$", re.MULTILINE)
