@@ -4,7 +4,6 @@ use mathlib.Core.Bool.{true, false, true≢false}
 use mathlib.Core.List.{List, _++_}
 use mathlib.Core.Option.{Option, none, some}
 use Prim.Native.Nat.{ℕ}
-use native.Mathlib.Omega.{arith}
 use lib.IntN.{ℤ}
 use lib.ListN.{length, drop}
 use lib.Signed.{leZ}
@@ -20,6 +19,7 @@ use Rattle.machine.specs.Search.{maybe}
 use Rattle.machine.specs.Bounds.{mostWorth}
 use Rattle.machine.specs.Fit.{Fit, Fair}
 use Rattle.machine.specs.Cases.{unitOf, termsOf, openingOf}
+use Rattle.machine.proofs.Table.BoundsLaws.{worth-below}
 use Rattle.machine.proofs.Table.CodedLaws.{low}
 use Rattle.machine.proofs.Table.Sizes.{worth-size}
 use Rattle.machine.proofs.Bridge.Bests.{worth-profit, worth-none, planAt-best, length-planAt}
@@ -27,7 +27,7 @@ use Rattle.cells.specs.Table.{Found}
 
 -- a worth of a day is above the code of none
 amount-above : (v : ℤ) → Bounded mostWorth (some v) → leZ v missing ≡ false
-amount-above v (amount b) = low mostWorth (omega arith) v b
+amount-above v (amount b) = low mostWorth worth-below v b
 
 module _ (c : Case) (e : refusalOf c ≡ 0) (fit : Fit (unitOf c))
     (fair : (k : ℕ) → Fair (termsOf c k)) (work : List ℤ) (ys zs : List ℕ) (z : ℤ)

@@ -1,6 +1,6 @@
 // The best day of a case in lent memory: its list in the first outputs, its profit, and the working numbers zeroed; 11
 // exactly where no list keeps every rule. What is answered and left for every input is model's specs/Answers,
-// `scheduleOf`; the best list is `bestDay` of model's specs/Best. A case outside the limits is refused by 2 to 8,
+// `scheduleOf`; the best list is `bestDay` of model's specs/Best. A case outside the limits is refused by 2 to 8 or 13,
 // memory that is too short by 10, and nothing is changed then.
 mod unit;
 mod wipe;
@@ -75,7 +75,7 @@ fn find(case: Case, work: &mut [i64], outputs: &mut [u16]) -> Plan
 }
 
 // The best list of the case of a reading. A refused reading is returned as it is, and the record of an accepted one is
-// tested again. On 2 to 8 and on 10 nothing is changed.
+// tested again. On 2 to 8, 13 and 10 nothing is changed.
 pub fn schedule(reading: Reading, work: &mut [i64], outputs: &mut [u16]) -> Plan
     ensures answer { λ r. ⌜ r ≡ (scheduleOf (reading .outcome) (reading .case) (now (work .entry))
         (now (outputs .entry))) .answer ⌝ }

@@ -1,11 +1,11 @@
 // The unit of a case as the search sees it, the margins, orders and charges of its hours, and the state in which its
 // day opens (machine's specs/Cases).
 ghost use mathlib.Core.Path.{_≡_};
-ghost use Prim.Native.Nat.{ℕ, _≤_, _<_};
+ghost use Prim.Native.Nat.{_≤_};
 ghost use lib.ListN.{getD, replicate};
 ghost use lib.IntN.{pos, _-ℤ_};
-ghost use Rattle.model.specs.Limits.{mostStages, mostHours, words};
-ghost use Rattle.model.specs.Layout.{padded, noOutput};
+ghost use Rattle.model.specs.Limits.{mostStages, mostHours};
+ghost use Rattle.model.specs.Layout.{padded, noOutput, noMills};
 ghost use Rattle.model.specs.Refusals.{refusalOf};
 ghost use Rattle.machine.specs.Cases.{unitOf, chargesOf, openingOf};
 use machine::Charges;
@@ -14,6 +14,7 @@ use machine::Unit;
 use model::Case;
 use model::HOURS;
 use model::Hour;
+use model::Mills;
 use model::Output;
 use model::STAGES;
 
@@ -33,11 +34,10 @@ fn stages(outputs: [Output; STAGES], n: usize) -> [Output; STAGES]
 }
 
 // The margins of the first n hours in place of zeros.
-pub(crate) fn margins(prices: [u16; HOURS], variable: u32, n: usize, to: &mut [i64; HOURS])
+pub(crate) fn margins(prices: [Mills; HOURS], variable: Mills, n: usize, to: &mut [i64; HOURS])
     requires { ⌜ (n ≤ mostHours) × (now to ≡ replicate mostHours (pos 0)) ⌝ }
     ensures { λ _. ⌜ now (to .exit)
-        ≡ padded (pos 0) (λ k. pos (getD prices k 0) -ℤ pos variable) n mostHours ⌝ }
-    ensures { λ _. ⌜ ((k : ℕ) → getD prices k 0 < words) ⌝ }
+        ≡ padded (pos 0) (λ k. getD prices k noMills .0 -ℤ variable .0) n mostHours ⌝ }
 {
     let mut k = 0;
     while k < n {
@@ -60,14 +60,13 @@ pub(crate) fn orders(bytes: [u8; HOURS], n: usize) -> [u8; HOURS]
     first
 }
 
-// What an on-line hour, a start and a stop of a case within the limits cost.
+// What an on-line hour, a start and a stop cost.
 pub(crate) fn charges_of(case: Case) -> Charges
-    requires { ⌜ refusalOf case ≡ 0 ⌝ }
     ensures { λ r. ⌜ r ≡ chargesOf case ⌝ }
 {
-    let holds = money::halved(2 * case.fixed);
-    let starts = money::halved(2 * case.startcost);
-    let stops = money::halved(2 * case.stopcost);
+    let holds = money::charged(case.fixed, 1);
+    let starts = money::charged(case.startcost, 1);
+    let stops = money::charged(case.stopcost, 1);
     Charges {
         holds,
         starts,

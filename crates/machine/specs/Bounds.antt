@@ -1,7 +1,11 @@
--- How large the numbers of a search and of a profit can get, each with what it bounds. Definitions only. Assumes
--- nothing.
+-- How large the numbers of a search and of a profit can get, each with what it bounds: for every price from its least
+-- to its most, and for days of up to a week. Definitions only. Assumes nothing.
 use Prim.Native.Nat.{ℕ, _+_, _*_, _^_}
-use Rattle.model.specs.Limits.{mostHours, mostOutput, mostVariable, mostCharge, words}
+use Rattle.model.specs.Limits.{mostOutput, mostVariable, mostCharge, mostPrice, words}
+
+-- hours: the longest day that the bounds are made for, a week
+abbrev pub longest : ℕ
+longest = 168
 
 -- megawatts: the outputs at the two ends of an hour together, the first being at most a ramp above the second
 abbrev pub mostEnds : ℕ
@@ -9,7 +13,7 @@ mostEnds = 3 * mostOutput
 
 -- half-mills: what a half-megawatt-hour earns or loses; what an on-line hour, a start or a stop costs
 abbrev pub mostMargin : ℕ
-mostMargin = words + mostVariable
+mostMargin = mostPrice + mostVariable
 
 abbrev pub mostFee : ℕ
 mostFee = 2 * mostCharge
@@ -19,7 +23,7 @@ abbrev pub mostEarned : ℕ
 mostEarned = mostMargin * mostEnds + 2 * mostFee
 
 abbrev pub mostWorth : ℕ
-mostWorth = mostHours * mostEarned
+mostWorth = longest * mostEarned
 
 -- half-mills: a line, which begins with what an hour earns and grows by a margin from output to output; an amount on it
 -- with what the hours of a day earn
@@ -46,4 +50,8 @@ abbrev pub mostHourProfit : ℕ
 mostHourProfit = mostMargin * (2 * words) + 3 * mostFee
 
 abbrev pub mostProfit : ℕ
-mostProfit = mostHours * mostHourProfit
+mostProfit = longest * mostHourProfit
+
+-- half-mills: a size that no such day comes to
+abbrev pub profitSize : ℕ
+profitSize = 2 ^ 50

@@ -8,6 +8,7 @@ use model::Case;
 use model::HalfMills;
 use model::Hour;
 use model::Output;
+use money::charged;
 use money::difference;
 use money::margin;
 use money::multiple;
@@ -15,31 +16,22 @@ use money::sum;
 ghost use mathlib.Core.Path.{_≡_};
 ghost use mathlib.Core.List.{List};
 ghost use Prim.Native.Nat.{ℕ, _*_, _≤_};
-ghost use lib.IntN.{pos, natAbs};
-ghost use Rattle.model.specs.Limits.{mostCharge};
+ghost use lib.IntN.{natAbs};
 ghost use Rattle.model.specs.Refusals.{refusalOf};
 ghost use Rattle.model.specs.Profit.{profitAt, profitOf};
-ghost use Rattle.machine.specs.Bounds.{mostMargin, mostHourProfit, mostProfit};
+ghost use Rattle.machine.specs.Bounds.{mostMargin, mostFee, mostHourProfit, mostProfit};
 ghost use Rattle.profit.specs.Worth.{Worth, Hourly, chargeOf};
-
-// An amount of mills at a mark, in half-mills.
-fn charged(amount: u32, mark: u8) -> u64
-    requires { ⌜ (amount ≤ mostCharge) × (mark ≤ 1) ⌝ }
-    ensures { λ r. ⌜ (r ≡ amount * (2 * mark)) × (r ≤ 2 * mostCharge) ⌝ }
-{
-    (amount as u64) * (2 * (mark as u64))
-}
 
 // What an hour costs beside F, by its marks.
 fn charge_of(case: Case, m: Marks) -> HalfMills
     requires { ⌜ refusalOf case ≡ 0 ⌝ }
     requires { ⌜ (m .online ≤ 1) × (m .start ≤ 1) × (m .stop ≤ 1) ⌝ }
-    ensures { λ r. ⌜ Worth (pos (chargeOf case m)) (6 * mostCharge) (r .0) ⌝ }
+    ensures { λ r. ⌜ Worth (chargeOf case m) (3 * mostFee) (r .0) ⌝ }
 {
     let online = charged(case.fixed, m.online);
     let start = charged(case.startcost, m.start);
     let stop = charged(case.stopcost, m.stop);
-    HalfMills((online + (start + stop)) as i64)
+    sum(online, sum(start, stop))
 }
 
 // The profit of an hour from output q to p, with what a half-megawatt-hour earns.

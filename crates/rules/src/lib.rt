@@ -1,7 +1,7 @@
 // The check of a list of hourly outputs: refused, or passing with its profit, or the first hour and rule that it breaks
 // (model's specs/Answers say which). A refused reading is answered by its number. The record of an accepted one is
-// tested again, 2 to 8, so that no reading has to be trusted; then 9, for a list that is not of T outputs. The work
-// grows with the hours, and in the hours of a start-up or a shut-down with its trajectory. The list is only read.
+// tested again, 2 to 8 and 13, so that no reading has to be trusted; then 9, for a list that is not of T outputs. The
+// work grows with the hours, and in the hours of a start-up or a shut-down with its trajectory. The list is only read.
 mod breach;
 
 use breach::first_breach;

@@ -12,11 +12,11 @@ use Rattle.model.specs.declared.Case.{Case}
 use Rattle.model.specs.declared.Output.{Output}
 use Rattle.model.specs.Limits.{mostStages, mostHours}
 use Rattle.model.specs.Symbols.{UD, DD, PU, PD, F, last, price, order}
-use Rattle.model.specs.Layout.{padded, noOutput}
+use Rattle.model.specs.Layout.{padded, noOutput, noMills}
 use Rattle.model.proofs.LimitsLaws.{Limits}
 use Rattle.model.specs.Words.{Ordered}
 use Rattle.model.proofs.LayoutLaws.{length-padded, getD-padded-in, getD-padded-past}
-use Rattle.model.proofs.SymbolsLaws.{stage-suc, hourly-suc}
+use Rattle.model.proofs.SymbolsLaws.{stage-suc, hourly-suc, priced-suc}
 use Rattle.machine.specs.Moves.{puAt, pdAt, obeys}
 use Rattle.machine.specs.Cases.{unitOf, marginsOf, ordersOf, termsOf}
 
@@ -52,7 +52,7 @@ module _ (c : Case) where
   -- the margin of an hour in mills per MWh: its price less F
   pub margin-past : (k : ℕ) → last c ≤ k → getD (marginsOf c) k (pos 0) ≡ pos 0
   unfolding marginsOf
-  margin-past k h = padded-rest (pos 0) (λ k. pos (getD (c .prices) k 0) -ℤ pos (F c)) (last c) mostHours k h
+  margin-past k h = padded-rest (pos 0) (λ k. getD (c .prices) k noMills .0 -ℤ F c) (last c) mostHours k h
 
   module _ (lim : Limits c) where
     pub pu-at : (i : ℕ) → i < UD c → puAt (unitOf c) i ≡ PU c (suc i)
@@ -71,12 +71,12 @@ module _ (c : Case) where
         (getD-padded-in noOutput (λ i. getD (c .fall) i noOutput) (DD c) mostStages noOutput i h room)
         ∙ sym (stage-suc (c .fall) i)
 
-    pub margin-at : (k : ℕ) → k < last c → getD (marginsOf c) k (pos 0) ≡ pos (price c (suc k)) -ℤ pos (F c)
+    pub margin-at : (k : ℕ) → k < last c → getD (marginsOf c) k (pos 0) ≡ price c (suc k) -ℤ F c
     unfolding marginsOf
     margin-at k h =
         let room : k < mostHours = omega (arith, lim .hours-le) in
-        getD-padded-in (pos 0) (λ k. pos (getD (c .prices) k 0) -ℤ pos (F c)) (last c) mostHours (pos 0) k h room
-        ∙ ap (λ n. pos n -ℤ pos (F c)) (sym (hourly-suc (c .prices) k))
+        getD-padded-in (pos 0) (λ k. getD (c .prices) k noMills .0 -ℤ F c) (last c) mostHours (pos 0) k h room
+        ∙ ap (λ x. x -ℤ F c) (sym (priced-suc (c .prices) k))
 
     order-at : (k : ℕ) → k < last c → getD (ordersOf c) k 0 ≡ order c (suc k)
     unfolding ordersOf

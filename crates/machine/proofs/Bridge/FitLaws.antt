@@ -6,16 +6,15 @@ use native.Mathlib.Decide.{decLt}
 use native.Mathlib.Omega.{arith}
 use borrow.Author.Tests.{eqb-false}
 use lib.Dec.{eqb}
-use lib.IntN.{pos, natAbs}
+use lib.IntN.{ℤ, pos, natAbs, _*ℤ_}
 use lib.ListN.{getD}
-use Rattle.laws.proofs.Magnitude.{abs--}
+use Rattle.laws.proofs.Magnitude.{abs--, abs-*}
 use Rattle.model.specs.declared.Case.{Case}
-use Rattle.model.specs.Limits.{words}
+use Rattle.model.specs.Limits.{mostCharge}
 use Rattle.model.specs.Symbols.{high, low, UD, DD, F, last, price, p0, h}
 use Rattle.model.specs.Refusals.{refusalOf}
-use Rattle.model.proofs.LimitsLaws.{Limits, limits-of-refusalOf}
-use Rattle.model.proofs.SymbolsLaws.{hourly-suc}
-use Rattle.machine.specs.Bounds.{mostMargin}
+use Rattle.model.proofs.LimitsLaws.{Amount, Limits, limits-of-refusalOf}
+use Rattle.machine.specs.Bounds.{mostMargin, mostFee}
 use Rattle.machine.specs.Moves.{idle, running, puAt, pdAt}
 use Rattle.machine.specs.Cases.{unitOf, marginsOf, chargesOf, termsOf, openingOf}
 use Rattle.machine.specs.Fit.{Fit, Fair}
@@ -49,26 +48,29 @@ module _ (c : Case) (lim : Limits c) where
   rise-pos : 1 ≤ puAt (unitOf c) 0
   rise-pos = omega (arith, pu-at c lim 0 (lim .rises-pos), lim .rise-pos)
 
-  -- margins, where prices are of 16 bits
-  module _ (prices : (k : ℕ) → getD (c .prices) k 0 < words) where
-    margin-le : (k : ℕ) → natAbs (getD (marginsOf c) k (pos 0)) ≤ mostMargin
-    margin-le k = go (decLt k (last c))
-      where
-        go : Dec (k < last c) → natAbs (getD (marginsOf c) k (pos 0)) ≤ mostMargin
-        go (yes l) =
-            let size = abs-- (pos (price c (suc k))) (pos (F c)) in
-            rw (margin-at c lim k l) (omega (arith, size, hourly-suc (c .prices) k, prices k, lim .variable-le))
-        go (no l) = rw (margin-past c k (omega arith)) (omega arith)
+  -- the terms of every hour
+  margin-le : (k : ℕ) → natAbs (getD (marginsOf c) k (pos 0)) ≤ mostMargin
+  margin-le k = go (decLt k (last c))
+    where
+      go : Dec (k < last c) → natAbs (getD (marginsOf c) k (pos 0)) ≤ mostMargin
+      go (yes l) =
+          let size = abs-- (price c (suc k)) (F c) in
+          rw (margin-at c lim k l)
+          (omega (arith, size, lim .price-le (suc k) (omega arith) l, lim .variable-in .le))
+      go (no l) = rw (margin-past c k (omega arith)) (omega arith)
 
-    fair : (k : ℕ) → Fair (termsOf c k)
-    unfolding chargesOf
-    fair k =
-        record {
-          margin-le = margin-le k;
-          holds-le = omega (arith, lim .fixed-le);
-          starts-le = omega (arith, lim .startcost-le);
-          stops-le = omega (arith, lim .stopcost-le);
-        }
+  doubled-le : {z : ℤ} → Amount mostCharge z → natAbs (z *ℤ pos 2) ≤ mostFee
+  doubled-le {z} a = omega (arith, abs-* z 2, a .le)
+
+  fair : (k : ℕ) → Fair (termsOf c k)
+  unfolding chargesOf
+  fair k =
+      record {
+        margin-le = margin-le k;
+        holds-le = doubled-le (lim .fixed-in);
+        starts-le = doubled-le (lim .startcost-in);
+        stops-le = doubled-le (lim .stopcost-in);
+      }
 
   fit : Fit (unitOf c)
   unfolding unitOf
@@ -109,9 +111,8 @@ module _ (c : Case) (lim : Limits c) where
 pub fit-of-limits : (c : Case) → refusalOf c ≡ 0 → Fit (unitOf c)
 fit-of-limits c e = fit c (limits-of-refusalOf c e)
 
-pub fair-of-limits : (c : Case) → refusalOf c ≡ 0 → ((k : ℕ) → getD (c .prices) k 0 < words) → (k : ℕ)
-    → Fair (termsOf c k)
-fair-of-limits c e prices = fair c (limits-of-refusalOf c e) prices
+pub fair-of-limits : (c : Case) → refusalOf c ≡ 0 → (k : ℕ) → Fair (termsOf c k)
+fair-of-limits c e = fair c (limits-of-refusalOf c e)
 
 pub opening-proper : (c : Case) → refusalOf c ≡ 0 → Proper (unitOf c) (openingOf c)
 opening-proper c e = proper c (limits-of-refusalOf c e)

@@ -7,11 +7,11 @@ use native.Mathlib.Nat.{add-comm}
 use native.Mathlib.Numerals.{add-one}
 use native.Mathlib.Omega.{arith}
 use lib.Dec.{eqb, eqb·suc-zero}
-use lib.IntN.{pos, _+ℤ_, +ℤ-assoc, +ℤ-idl, +ℤ-idr}
+use lib.IntN.{ℤ, pos, _+ℤ_, _*ℤ_, *ℤ-zero, +ℤ-assoc, +ℤ-idl, +ℤ-idr}
 use lib.ListN.{length, getD}
 use Rattle.model.specs.declared.Case.{Case}
 use Rattle.model.specs.Symbols.{A, B, C, last, p0}
-use Rattle.model.specs.Marks.{p, y, z}
+use Rattle.model.specs.Marks.{p}
 use Rattle.model.specs.Profit.{profitAt, profitTo, profitOf}
 use Rattle.model.proofs.LimitsLaws.{Limits}
 use Rattle.model.proofs.MarksLaws.{p-zero, p-suc}
@@ -24,25 +24,21 @@ use Rattle.machine.proofs.Bridge.CasesLaws.{margin-at}
 use Rattle.model.proofs.Automaton.Literals.{v-is, y-is, z-is}
 
 -- charges by the marks of two outputs, and by the outputs
-charges : (a b d q p : ℕ) → pos (a * (2 * on p) + (b * (2 * rise q p) + d * (2 * rise p q)))
-    ≡ cond (eqb p 0) (cond (eqb q 0) (pos 0) (pos (2 * d))) (cond (eqb q 0) (pos (2 * a) +ℤ pos (2 * b)) (pos (2 * a)))
-charges a b d zero zero = ap pos (omega arith)
-charges a b d (suc q) zero = rw (eqb·suc-zero q) (ap pos (omega arith))
-charges a b d zero (suc p) = rw (eqb·suc-zero p) (ap pos (omega arith))
-charges a b d (suc q) (suc p) = rw (eqb·suc-zero p, eqb·suc-zero q) (ap pos (omega arith))
+charges : (a b d : ℤ) (q p : ℕ) → a *ℤ pos (2 * on p) +ℤ (b *ℤ pos (2 * rise q p) +ℤ d *ℤ pos (2 * rise p q))
+    ≡ cond (eqb p 0) (cond (eqb q 0) (pos 0) (d *ℤ pos 2)) (cond (eqb q 0) (a *ℤ pos 2 +ℤ b *ℤ pos 2) (a *ℤ pos 2))
+charges a b d zero zero = simp (*ℤ-zero)
+charges a b d (suc q) zero = simp (eqb·suc-zero, *ℤ-zero, +ℤ-idl)
+charges a b d zero (suc p) = simp (eqb·suc-zero, *ℤ-zero, +ℤ-idr)
+charges a b d (suc q) (suc p) = simp (eqb·suc-zero, *ℤ-zero, +ℤ-idr)
 
 module _ (c : Case) (lim : Limits c) (l : List ℕ) where
   charge-same : (k : ℕ) → k < last c
-      → pos (Rattle.model.specs.Profit.charge c l (suc k)) ≡ charge (termsOf c k) (p c l k) (p c l (suc k))
+      → Rattle.model.specs.Profit.charge c l (suc k) ≡ charge (termsOf c k) (p c l k) (p c l (suc k))
   unfolding chargesOf charge
   charge-same k h =
       let q = p c l k in
       let r = p c l (suc k) in
-      ap pos (charge-is c l (suc k)
-      ∙ ap (λ n. A c * (2 * n) + (B c * (2 * y c l (suc k)) + C c * (2 * z c l (suc k)))) (v-is c l (suc k))
-      ∙ ap (λ n. A c * (2 * on r) + (B c * (2 * n) + C c * (2 * z c l (suc k)))) (y-is c l k h)
-      ∙ ap (λ n. A c * (2 * on r) + (B c * (2 * rise q r) + C c * (2 * n))) (z-is c l k h))
-      ∙ charges (A c) (B c) (C c) q r
+      charge-is c l (suc k) ∙ rw (v-is c l (suc k), y-is c l k h, z-is c l k h) (charges (A c) (B c) (C c) q r)
 
   earn-same : (k : ℕ) → k < last c → profitAt c l (suc k) ≡ earn (termsOf c k) (p c l k) (p c l (suc k))
   unfolding earn

@@ -1,52 +1,83 @@
 -- `profit::charge_of` meets its contract: the three charges are added. Assumes nothing.
 use borrow.Author.Needs.{needs}
-use mathlib.Core.Path.{_≡_, ap, _∙_}
+use mathlib.Core.Path.{ap}
 use native.Mathlib.Omega.{arith}
-use Prim.Native.Nat.{_+_, _*_, _≤_}
-use lib.IntN.{pos, natAbs}
-use mir.Syntax.{w64}
-use mir.Facts.{toZ-pos}
-use Rattle.model.specs.Limits.{mostCharge}
+use Prim.Native.Nat.{_≤_}
+use lib.IntN.{ℤ, natAbs}
+use Rattle.laws.proofs.Magnitude.{abs-+}
 use Rattle.model.proofs.LimitsLaws.{Limits, limits-of-refusalOf}
-use Rattle.profit.specs.Worth.{chargeOf}
+use Rattle.machine.specs.Bounds.{mostFee}
+use Rattle.profit.proofs.EarnedLaws.{charged-le}
 use Rattle.profit.proofs.charge_of.Statement.{statement}
 use Rattle.profit.proofs.charge_of.Tie as tie
 
-limits : (s : tie.Start) → Limits (s .args .case)
-limits s = limits-of-refusalOf (s .args .case) (s .pre .0)
+-- each charge, and how large it is
+module _ (c : tie.After-charged3) where
+  abbrev begun : tie.Start
+  begun = c .before .before .before
 
-charged-requires : tie.Need-charged-requires
-charged-requires c κs = (limits c .fixed-le, c .pre .1 .0)
+  abbrev online : ℤ
+  online = c .before .before .charged .result .0
 
-charged-requires-2 : tie.Need-charged-requires-2
-charged-requires-2 c κs = let s = c .before in (limits s .startcost-le, s .pre .1 .1)
+  abbrev start : ℤ
+  start = c .before .charged2 .result .0
 
-charged-requires-3 : tie.Need-charged-requires-3
-charged-requires-3 c κs = let s = c .before .before in (limits s .stopcost-le, s .pre .1 .2)
+  abbrev stop : ℤ
+  stop = c .charged3 .result .0
 
-add-t6 : tie.Need-add-t6
-add-t6 c = search needs
+  limits : Limits (begun .args .case)
+  limits = limits-of-refusalOf (begun .args .case) (begun .pre .0)
 
-add-t7 : tie.Need-add-t7
-add-t7 c = search needs
+  online-le : natAbs online ≤ mostFee
+  online-le =
+      charged-le (begun .args .m .online) (limits .fixed-in) (begun .pre .1 .0) (c .before .before .charged .ensures)
 
-cast-t8 : tie.Need-cast-t8
-cast-t8 c = search needs
+  start-le : natAbs start ≤ mostFee
+  start-le = charged-le (begun .args .m .start) (limits .startcost-in) (begun .pre .1 .1) (c .before .charged2 .ensures)
+
+  stop-le : natAbs stop ≤ mostFee
+  stop-le = charged-le (begun .args .m .stop) (limits .stopcost-in) (begun .pre .1 .2) (c .charged3 .ensures)
+
+sum-requires : tie.Need-sum-requires
+sum-requires c κs = omega (arith, start-le c, stop-le c)
+
+sum-requires-2 : tie.Need-sum-requires-2
+sum-requires-2 c κs =
+    let d = c .before in
+    omega (
+      arith,
+      ap natAbs (c .sum .ensures),
+      abs-+ (start d) (stop d),
+      online-le d,
+      start-le d,
+      stop-le d,
+    )
 
 returns : tie.Need-returns
 returns c =
-    let online = c .before .before .charged in
-    let start = c .before .charged2 in
-    let stop = c .charged3 in
-    let a = c .before .before .before .args in
-    let total = online .result + (start .result + stop .result) in
-    let few : total ≤ 6 * mostCharge = omega (arith, online .ensures .1, start .ensures .1, stop .ensures .1) in
-    let is = toZ-pos w64 {n = total} (omega arith) in
-    let same : total ≡ chargeOf (a .case) (a .m) =
-    omega (arith, online .ensures .0, start .ensures .0, stop .ensures .0) in
-    record { is = is ∙ ap pos same; most = omega (arith, ap natAbs is) }
+    let d = c .before .before in
+    let inner = c .before .sum in
+    record {
+      is = (cc);
+      most = omega (
+        arith,
+        ap natAbs (c .sum2 .ensures),
+        ap natAbs (inner .ensures),
+        abs-+ (online d) (inner .result .0),
+        abs-+ (start d) (stop d),
+        online-le d,
+        start-le d,
+        stop-le d,
+      );
+    }
 
 pub charge-of-spec : {M : Type 1} → statement M
 charge-of-spec =
     tie.close
-    (tie.spec charged-requires charged-requires-2 charged-requires-3 add-t6 add-t7 cast-t8 returns)
+    (tie.spec
+    (λ c κs. search needs)
+    (λ c κs. search needs)
+    (λ c κs. search needs)
+    sum-requires
+    sum-requires-2
+    returns)

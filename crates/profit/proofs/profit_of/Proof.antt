@@ -2,17 +2,15 @@
 use borrow.Author.Needs.{needs}
 use native.Mathlib.Omega.{arith}
 use mathlib.Core.Path.{sym, ap, _∙_}
-use Prim.Native.Nat.{ℕ, _+_, _-_}
-use lib.IntN.{pos, _-ℤ_}
-use lib.ListN.{getD}
-use mir.Syntax.{w16}
-use mir.Val.{Fits}
+use Prim.Native.Nat.{_+_, _-_, _≤_}
+use lib.IntN.{natAbs, _-ℤ_}
 use Rattle.model.specs.Symbols.{F, price}
 use Rattle.model.specs.Marks.{p}
 use Rattle.model.specs.Profit.{profitAt}
 use Rattle.model.proofs.MarksLaws.{p-zero}
 use Rattle.model.proofs.LimitsLaws.{Limits, limits-of-refusalOf}
-use Rattle.machine.specs.Bounds.{mostMargin, mostHourProfit}
+use Rattle.machine.specs.Bounds.{mostMargin, mostHourProfit, mostProfit}
+use Rattle.machine.proofs.Table.BoundsLaws.{hours-longest, profit-below}
 use Rattle.profit.specs.Worth.{Worth, Hourly}
 use Rattle.profit.proofs.EarnedLaws.{over-of, Earned, earned-start, earned-step, earned-end}
 use Rattle.profit.proofs.profit_of.Statement.{statement}
@@ -25,25 +23,22 @@ abbrev μ-loop : tie.MeasureT-loop
 μ-loop case list prices variable total₀ was₀ hours k₀ total was k = hours - k
 
 abbrev start : tie.In-loop Inv-loop μ-loop → tie.Start Inv-loop μ-loop
-start c = c .before .before .before .before .before
+start c = c .before .before .before .before .before .before
 
 abbrev in-hour : tie.After-output-at Inv-loop μ-loop → tie.In-loop Inv-loop μ-loop
-in-hour c = c .before .before
+in-hour c = c .before .before .before
 
 limits : (s : tie.Start Inv-loop μ-loop) → Limits (s .args .case)
 limits s = limits-of-refusalOf (s .args .case) (s .pre)
 
-priced : (s : tie.Start Inv-loop μ-loop) (k : ℕ) → Fits w16 (getD (s .args .case .prices) k 0)
-priced s k = search needs
-
 -- what the price of the hour leaves above F
 over : (c : tie.After-margin Inv-loop μ-loop)
-    → let case = start (c .before) .args .case in
-    Worth (pos (price case (c .before .before .loop .k + 1)) -ℤ pos (F case)) mostMargin (c .margin .result .0)
+    → let d = c .before .before in
+    let case = start d .args .case in
+    Worth (price case (d .before .loop .k + 1) -ℤ F case) mostMargin (c .margin .result .0)
 over c =
-    let s = start (c .before) in
-    let k = c .before .before .loop .k in
-    over-of (s .args .case) k (priced s k .fits) (limits s .variable-le) (c .margin .ensures)
+    let d = c .before .before in
+    over-of (start d .args .case) (d .before .loop .k) (limits (start d)) (d .loop-test .taken) (c .margin .ensures)
 
 -- the hour is the next one
 hour : (c : tie.After-output-at Inv-loop μ-loop)
@@ -71,22 +66,22 @@ worth c =
     c .hour-profit .ensures (start d .args .list .now) (d .before .loop .k + 1) (hour (c .before))
 
 loop-holds : tie.Need-loop-holds Inv-loop μ-loop
-loop-holds c = let a = c .before .before .before .args in earned-start (sym (p-zero (a .case) (a .list .now)))
+loop-holds c = let a = c .before .before .before .before .args in earned-start (sym (p-zero (a .case) (a .list .now)))
 
 mul-margin : tie.Need-mul-margin Inv-loop μ-loop
 mul-margin c = omega (arith, limits (start c) .hours-le)
 
-array-read-margin : tie.Need-array-read-margin Inv-loop μ-loop
-array-read-margin c = omega (arith, limits (start c) .hours-le)
+array-copy-out-margin : tie.Need-array-copy-out-margin Inv-loop μ-loop
+array-copy-out-margin c = omega (arith, limits (start c) .hours-le)
 
 margin-requires : tie.Need-margin-requires Inv-loop μ-loop
 margin-requires c κs = search needs
 
 add-k : tie.Need-add-k Inv-loop μ-loop
-add-k c = omega (arith, limits (start (c .before)) .hours-le)
+add-k c = omega (arith, limits (start (c .before .before)) .hours-le)
 
-cast-t15 : tie.Need-cast-t15 Inv-loop μ-loop
-cast-t15 c = omega (arith, limits (start (c .before)) .hours-le)
+cast-t16 : tie.Need-cast-t16 Inv-loop μ-loop
+cast-t16 c = omega (arith, limits (start (c .before .before)) .hours-le)
 
 output-at-requires : tie.Need-output-at-requires Inv-loop μ-loop
 output-at-requires c κs = search needs
@@ -97,7 +92,10 @@ hour-profit-requires c κs = (start (in-hour c) .pre, over (c .before) .most)
 sum-requires : tie.Need-sum-requires Inv-loop μ-loop
 sum-requires c κs =
     let d = in-hour (c .before) in
-    omega (arith, d .before .loop .inv, limits (start d) .hours-le, worth c .most)
+    let l = d .before .loop in
+    let day : natAbs (l .total .0) + natAbs (c .hour-profit .result .0) ≤ mostProfit =
+    omega (arith, l .inv .most, worth c .most, d .loop-test .taken, limits (start d) .hours-le, hours-longest) in
+    omega (arith, profit-below)
 
 loop-less : tie.Need-loop-less Inv-loop μ-loop
 loop-less c = search needs
@@ -115,9 +113,9 @@ loop-again c =
 returns : tie.Need-returns Inv-loop μ-loop
 returns c =
     let h = c .before .loop .inv in
-    let s = c .before .before .before .before .before in
+    let s = c .before .before .before .before .before .before in
     let limits = limits s in
-    record { is = earned-end h (search needs); most = omega (arith, h .most, h .part, limits .hours-le) }
+    record { is = earned-end h (search needs); most = omega (arith, h .most, h .part, limits .hours-le, hours-longest) }
 
 pub profit-of-spec : {M : Type 1} → statement M
 profit-of-spec =
@@ -127,10 +125,10 @@ profit-of-spec =
     μ-loop
     loop-holds
     mul-margin
-    array-read-margin
+    array-copy-out-margin
     margin-requires
     add-k
-    cast-t15
+    cast-t16
     output-at-requires
     hour-profit-requires
     sum-requires
