@@ -26,7 +26,7 @@ ALWAYS += [2147483647, 2147483648, 4294967295, 4294967296]
 BOUNDS = [7, 8, 9, 15, 16, 17, 20, 32, 52, 54]
 
 NUMBERS = "|".join(map(str, ALWAYS))
-LITERAL = re.compile(rf"(?<![\w.'·])(?<!\^ )(?:{NUMBERS})(?:(?:u8|u16|u32|u64|i64|usize)\b|(?![\w.']))")
+LITERAL = re.compile(rf"(?<![\w.'·])(?<!\^ )(?:{NUMBERS})(?:(?:u8|u16|u32|u64|usize|i8|i16|i32|i64|isize)\b|(?![\w.']))")
 COMPARED = re.compile(rf"(?:≤|<|≡|<=|>=|==)\s(?:{'|'.join(map(str, BOUNDS))})(?![\w.'])")
 POWER = re.compile(r"(?<![\w'])2 \^ \d+")
 ASIDE = re.compile(r"(--|//).*$|^\s*(ghost )?use .*$|^#\[.*$")
