@@ -141,7 +141,7 @@ fn choice_out(comparison: Comparison) -> GiqapsunChoice
 
 // Reads a case file.
 #[no_mangle]
-pub extern "C" fn giqapsun_read_1(file: &[u8]) -> GiqapsunReading
+pub extern "C" fn giqapsun_read_2(file: &[u8]) -> GiqapsunReading
     ensures { λ r. ⌜ r ≡ readingOut (readOf (now (file .entry))) ⌝ }
 {
     reading_out(codec::read(file))
@@ -150,7 +150,7 @@ pub extern "C" fn giqapsun_read_1(file: &[u8]) -> GiqapsunReading
 // Writes the file of a record to the front of the lent bytes; those past it, and all of them on a refusal, stay as
 // they are.
 #[no_mangle]
-pub extern "C" fn giqapsun_write_1(case: Case, bytes: &mut [u8]) -> GiqapsunWritten
+pub extern "C" fn giqapsun_write_2(case: Case, bytes: &mut [u8]) -> GiqapsunWritten
     ensures answer { λ r. ⌜ r ≡ writtenOut ((writeOf case (now (bytes .entry))) .answer) ⌝ }
     ensures lent { λ _. ⌜ now (bytes .exit) ≡ (writeOf case (now (bytes .entry))) .lent ⌝ }
 {
@@ -159,7 +159,7 @@ pub extern "C" fn giqapsun_write_1(case: Case, bytes: &mut [u8]) -> GiqapsunWrit
 
 // The verdict of a list with a record.
 #[no_mangle]
-pub extern "C" fn giqapsun_check_1(case: Case, list: &[u16]) -> GiqapsunVerdict
+pub extern "C" fn giqapsun_check_2(case: Case, list: &[u16]) -> GiqapsunVerdict
     ensures { λ r. ⌜ r ≡ verdictOut (checkOf Accepted case (now (list .entry))) ⌝ }
 {
     verdict_out(rules::check(codec::admit(case), list))
@@ -167,16 +167,16 @@ pub extern "C" fn giqapsun_check_1(case: Case, list: &[u16]) -> GiqapsunVerdict
 
 // Which of two lists to offer with a record.
 #[no_mangle]
-pub extern "C" fn giqapsun_better_1(case: Case, first: &[u16], second: &[u16]) -> GiqapsunChoice
+pub extern "C" fn giqapsun_better_2(case: Case, first: &[u16], second: &[u16]) -> GiqapsunChoice
     ensures { λ r. ⌜ r ≡ choiceOut (comparedOf Accepted case (now (first .entry)) (now (second .entry))) ⌝ }
 {
     choice_out(offers::compare(codec::admit(case), first, second))
 }
 
-// The best list of a record, in the first outputs; the first working numbers are zeroed. Nothing is changed on 2 to 8
-// and on 10.
+// The best list of a record, in the first outputs; the first working numbers are zeroed. Nothing is changed on 2 to 8,
+// 13 and 10.
 #[no_mangle]
-pub extern "C" fn giqapsun_best_1(case: Case, work: &mut [i64], outputs: &mut [u16]) -> GiqapsunPlan
+pub extern "C" fn giqapsun_best_2(case: Case, work: &mut [i64], outputs: &mut [u16]) -> GiqapsunPlan
     ensures answer { λ r. ⌜ r
         ≡ planOut ((scheduleOf Accepted case (now (work .entry)) (now (outputs .entry))) .answer) ⌝ }
     ensures work { λ _. ⌜ now (work .exit)

@@ -1,27 +1,41 @@
-// The days whose answers are known from outside: the twelve of the scope on its small unit, pairs of lists on that
-// unit, and the days of the source, whose case is read from standard input. Prints one line for each: what was asked,
-// and the answer of best::schedule, of rules::check, or of offers::compare with the part of offers::better.
+// The days whose answers are known from outside: the twelve of the scope on its small unit, pairs of lists and prices
+// below zero and far above it on that unit, and the days of the source, whose case is read from standard input in the
+// old form and written in form 2. Prints one line for each: what was asked, and the answer of best::schedule, of
+// rules::check, of offers::compare with the part of offers::better, or of codec::write.
 use libc::STDIN_FILENO;
 use libc::STDOUT_FILENO;
 use model::Case;
 use model::Comparison;
-use model::FRONT_BYTES;
+use model::FORM_BYTES;
 use model::HOUR_BYTES;
 use model::HOURS;
 use model::HalfMills;
 use model::Hour;
+use model::MOST_PRICE;
+use model::Mills;
+use model::OLD_HOUR_BYTES;
+use model::OLD_SECTIONS;
 use model::Output;
+use model::PAIR_BYTES;
 use model::Plan;
 use model::Reading;
+use model::SECTIONS;
 use model::STAGE_BYTES;
 use model::STAGES;
+use model::UNIT_BYTES;
 use model::Verdict;
 use model::WORK;
+use model::Written;
 
-// The hours of the source's day, and the bytes of its case, which has six outputs of trajectories.
+// The hours of the source's day, and the bytes of its unit and of its trajectories, which have six outputs; the bytes of
+// its case in the old form and in form 2.
 const DAY: usize = 24;
 
-const SOURCE: usize = FRONT_BYTES + 6 * STAGE_BYTES + DAY * HOUR_BYTES;
+const UNIT: usize = UNIT_BYTES + 6 * STAGE_BYTES;
+
+const SOURCE: usize = PAIR_BYTES * OLD_SECTIONS + UNIT + DAY * OLD_HOUR_BYTES;
+
+const SOURCE_TWO: usize = PAIR_BYTES * SECTIONS + UNIT + DAY * HOUR_BYTES + FORM_BYTES;
 
 // A word, and a number after it.
 fn print_number(word: &[u8], n: u64) {
@@ -115,13 +129,13 @@ fn print_better<'a>(name: &[u8], reading: Reading, first: &'a [u16], second: &'a
     io::write_all(STDOUT_FILENO, b"\n");
 }
 
-// A day of the scope's small unit: p(0), h, minimum down time, T, the price of every hour, the orders.
-fn small(
+// A day of the scope's small unit: p(0), h, minimum down time, T, the prices, the orders.
+fn priced(
     initial: Output,
     elapsed: Hour,
     mindown: Hour,
     hours: usize,
-    price: u16,
+    prices: [Mills; HOURS],
     orders: [u8; HOURS],
 ) -> Reading {
     let mut rise = [Output(0); STAGES];
@@ -137,15 +151,15 @@ fn small(
         rampdown: Output(1),
         minup: Hour(1),
         mindown: mindown,
-        variable: 10,
-        fixed: 1,
-        startcost: 3,
-        stopcost: 2,
+        variable: Mills(10),
+        fixed: Mills(1),
+        startcost: Mills(3),
+        stopcost: Mills(2),
         initial: initial,
         elapsed: elapsed,
         rise: rise,
         fall: fall,
-        prices: [price; HOURS],
+        prices: prices,
         orders: orders,
         rises: 2,
         falls: 2,
@@ -153,16 +167,28 @@ fn small(
     })
 }
 
+// The same with one price for every hour.
+fn small(
+    initial: Output,
+    elapsed: Hour,
+    mindown: Hour,
+    hours: usize,
+    price: Mills,
+    orders: [u8; HOURS],
+) -> Reading {
+    priced(initial, elapsed, mindown, hours, [price; HOURS], orders)
+}
+
 // The known days 1 to 7, which have no orders.
 fn print_free() {
     let free = [0u8; HOURS];
-    print_best(b"1", small(Output(0), Hour(2), Hour(1), 1, 10, free));
-    print_best(b"2", small(Output(0), Hour(2), Hour(1), 1, 18, free));
-    print_best(b"3", small(Output(0), Hour(2), Hour(1), 1, 19, free));
-    print_best(b"4", small(Output(2), Hour(2), Hour(1), 1, 10, free));
-    print_best(b"5", small(Output(2), Hour(2), Hour(1), 2, 5, free));
-    print_best(b"6", small(Output(3), Hour(2), Hour(1), 2, 5, free));
-    print_best(b"7", small(Output(3), Hour(2), Hour(1), 3, 5, free));
+    print_best(b"1", small(Output(0), Hour(2), Hour(1), 1, Mills(10), free));
+    print_best(b"2", small(Output(0), Hour(2), Hour(1), 1, Mills(18), free));
+    print_best(b"3", small(Output(0), Hour(2), Hour(1), 1, Mills(19), free));
+    print_best(b"4", small(Output(2), Hour(2), Hour(1), 1, Mills(10), free));
+    print_best(b"5", small(Output(2), Hour(2), Hour(1), 2, Mills(5), free));
+    print_best(b"6", small(Output(3), Hour(2), Hour(1), 2, Mills(5), free));
+    print_best(b"7", small(Output(3), Hour(2), Hour(1), 3, Mills(5), free));
 }
 
 // The known days 8 to 12: those with orders, and the lists that are checked.
@@ -171,32 +197,38 @@ fn print_ordered() {
     let mut orders = free;
     orders[1] = 1;
     orders[3] = 2;
-    print_best(b"8", small(Output(0), Hour(2), Hour(1), 4, 10, orders));
+    print_best(
+        b"8",
+        small(Output(0), Hour(2), Hour(1), 4, Mills(10), orders),
+    );
     print_check(
         b"9",
-        small(Output(0), Hour(2), Hour(1), 1, 10, free),
+        small(Output(0), Hour(2), Hour(1), 1, Mills(10), free),
         &[2u16],
     );
     print_check(
         b"10",
-        small(Output(2), Hour(2), Hour(1), 1, 10, free),
+        small(Output(2), Hour(2), Hour(1), 1, Mills(10), free),
         &[4u16],
     );
     print_best(
         b"11",
-        small(Output(0), Hour(1), Hour(2), 1, 10, [1u8; HOURS]),
+        small(Output(0), Hour(1), Hour(2), 1, Mills(10), [1u8; HOURS]),
     );
     orders[0] = 2;
-    print_best(b"12", small(Output(0), Hour(2), Hour(1), 4, 10, orders));
+    print_best(
+        b"12",
+        small(Output(0), Hour(2), Hour(1), 4, Mills(10), orders),
+    );
 }
 
 // An hour of the unit at 2 MW, at a price of F and above it.
 fn level() -> Reading {
-    small(Output(2), Hour(2), Hour(1), 1, 10, [0u8; HOURS])
+    small(Output(2), Hour(2), Hour(1), 1, Mills(10), [0u8; HOURS])
 }
 
 fn dear() -> Reading {
-    small(Output(2), Hour(2), Hour(1), 1, 12, [0u8; HOURS])
+    small(Output(2), Hour(2), Hour(1), 1, Mills(12), [0u8; HOURS])
 }
 
 // One list passes; both do, and the higher profit, or the lower output, wins; identical lists; neither passes.
@@ -213,21 +245,73 @@ fn print_pairs() {
 
 // A first and a second list of another length; and a case that is refused, which comes before 9.
 fn print_refused_pairs() {
-    let case = small(Output(1), Hour(2), Hour(1), 1, 10, [0u8; HOURS]);
+    let case = small(Output(1), Hour(2), Hour(1), 1, Mills(10), [0u8; HOURS]);
     print_better(b"first of 2 outputs", level(), &[2u16, 2], &[2u16]);
     print_better(b"second of 2 outputs", level(), &[2u16], &[2u16, 2]);
     print_better(b"refused case", case, &[2u16, 2], &[2u16]);
 }
 
+// An hour of the unit off-line, and of the unit at 2 MW.
+fn idle(price: Mills, order: u8) -> Reading {
+    small(Output(0), Hour(2), Hour(1), 1, price, [order; HOURS])
+}
+
+fn running(price: Mills) -> Reading {
+    small(Output(2), Hour(2), Hour(1), 1, price, [0u8; HOURS])
+}
+
+// Below zero: staying off-line earns 0, and an order on-line is kept at a loss; above 65.535 dollars.
+fn print_prices() {
+    print_best(b"-5 mills, free", idle(Mills(-5), 0));
+    print_best(b"-5 mills, on-line", idle(Mills(-5), 1));
+    print_best(b"65536 mills", running(Mills(65536)));
+    print_best(b"100000 mills", running(Mills(100000)));
+}
+
+// The limits of a price, above 0 and below, and a mill past each; a price past the last hour is not looked at.
+fn print_limits() {
+    print_best(b"most", running(Mills(MOST_PRICE)));
+    print_best(b"past the most", running(Mills(MOST_PRICE + 1)));
+    print_best(b"least", running(Mills(-MOST_PRICE)));
+    print_best(b"past the least", running(Mills(-MOST_PRICE - 1)));
+    let mut prices = [Mills(10); HOURS];
+    prices[1] = Mills(MOST_PRICE + 1);
+    let free = [0u8; HOURS];
+    print_best(
+        b"past the last hour",
+        priced(Output(0), Hour(2), Hour(1), 1, prices, free),
+    );
+    print_best(
+        b"in the last hour",
+        priced(Output(0), Hour(2), Hour(1), 2, prices, free),
+    );
+}
+
 // The prices of two days that are alike.
-fn twice(prices: [u16; HOURS]) -> [u16; HOURS] {
+fn twice(prices: [Mills; HOURS]) -> [Mills; HOURS] {
     let mut both = prices;
     let mut k = 0;
     while k < DAY {
-        both[k + DAY] = prices[k];
+        let price = prices[k];
+        both[k + DAY] = price;
         k += 1;
     }
     both
+}
+
+// The source's case written, and read again in form 2; a form that there is not.
+fn print_forms(file: &[u8]) {
+    let reading = codec::read(file);
+    let case = reading.case;
+    let mut bytes = [0u8; SOURCE_TWO];
+    match codec::write(case, &mut bytes) {
+        Written::Bytes(n) => print_number(b"source, bytes of form 2: ", n as u64),
+        Written::Refused(number) => print_number(b"source, not written: ", number as u64),
+    }
+    io::write_all(STDOUT_FILENO, b"\n");
+    print_best(b"source, form 2", codec::read(&bytes));
+    bytes[SOURCE_TWO - FORM_BYTES] = 3;
+    print_best(b"source, form 3", codec::read(&bytes));
 }
 
 // The source's day, and its day twice.
@@ -281,9 +365,12 @@ fn main() {
     print_ordered();
     print_pairs();
     print_refused_pairs();
+    print_prices();
+    print_limits();
     let mut file = [0u8; SOURCE + 1];
     let n = io::read_full(STDIN_FILENO, &mut file);
     print_source(&file[..n]);
     print_lists(&file[..n]);
     print_best(b"source, a byte long", codec::read(&file));
+    print_forms(&file[..n]);
 }

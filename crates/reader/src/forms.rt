@@ -10,8 +10,8 @@ use model::HOURS;
 use model::OLD_HOUR_BYTES;
 use model::OLD_SECTIONS;
 use model::SECTIONS;
-use model::STAGES;
 use model::STAGE_BYTES;
+use model::STAGES;
 use model::UNIT_BYTES;
 
 // The old form, and form 2.

@@ -14,20 +14,20 @@ abbrev μ-loop : tie.MeasureT-loop
 loop-holds : tie.Need-loop-holds Inv-loop μ-loop
 loop-holds c = omega arith
 
-mul-both : tie.Need-mul-both Inv-loop μ-loop
-mul-both c = search needs
+mul-price : tie.Need-mul-price Inv-loop μ-loop
+mul-price c = search needs
 
-array-read-both : tie.Need-array-read-both Inv-loop μ-loop
-array-read-both c = search needs
+array-copy-out-price : tie.Need-array-copy-out-price Inv-loop μ-loop
+array-copy-out-price c = search needs
 
 add-both : tie.Need-add-both Inv-loop μ-loop
 add-both c = search needs
 
-mul-both-2 : tie.Need-mul-both-2 Inv-loop μ-loop
-mul-both-2 c = search needs
+mul-both : tie.Need-mul-both Inv-loop μ-loop
+mul-both c = search needs
 
-array-write-both : tie.Need-array-write-both Inv-loop μ-loop
-array-write-both c = search needs
+array-set-from-both : tie.Need-array-set-from-both Inv-loop μ-loop
+array-set-from-both c = search needs
 
 add-k : tie.Need-add-k Inv-loop μ-loop
 add-k c = search needs
@@ -48,11 +48,11 @@ twice-spec =
     Inv-loop
     μ-loop
     loop-holds
-    mul-both
-    array-read-both
+    mul-price
+    array-copy-out-price
     add-both
-    mul-both-2
-    array-write-both
+    mul-both
+    array-set-from-both
     add-k
     loop-less
     loop-again
