@@ -1,12 +1,12 @@
 -- The case of a file is the case of its sections, which are as long as their form says; the order byte is the last of an
 -- hour. Assumes nothing.
-use mathlib.Core.Path.{_≡_, sym}
+use mathlib.Core.Path.{_≡_, sym, ap, _∙_}
 use mathlib.Core.List.{List, []}
-use Prim.Native.Nat.{ℕ, _+_, _*_, _-_, _≤_}
+use Prim.Native.Nat.{ℕ, _+_, _*_, _-_, _≤_, _<_}
+use native.Mathlib.Nat.{mul-one, mul-le-mul-left}
 use native.Mathlib.Omega.{arith}
 use lib.ListN.{length, getD}
-use Rattle.model.specs.Limits.{mostStages, mostHours}
-use Rattle.model.specs.Forms.{unitWidths, width, entryLength}
+use Rattle.model.specs.Forms.{Form as Table, mostEntries, entryLength}
 use Rattle.model.specs.Layout.{sectionAt, fieldAt, entriesAt, entryAt, caseIn}
 use Rattle.model.proofs.AcceptedLaws.{Whole, length-section}
 use Rattle.model.proofs.NumbersLaws.{numberAt-one}
@@ -26,36 +26,21 @@ module _ (file : List ℕ) where
   caseIn-sections Two w =
       rw (length-section w 1 (omega arith), length-section w 2 (omega arith), length-section w 3 (omega arith))
 
-  -- the bytes of each section
-  pub record Sized (f : Form) : Type 0 where
-    pub unit : length (sectionAt file 0) ≡ width unitWidths
-    pub rise : length (sectionAt file 1) ≤ 2 * mostStages
-    pub fall : length (sectionAt file 2) ≤ 2 * mostStages
-    pub hours : length (sectionAt file 3) ≤ entryLength (tableOf f) 3 * mostHours
+-- the bytes of section i: as many as its form allows at the most, and those of the entry where there is one
+module _ {f : Table} {file : List ℕ} (w : Whole f file) (i : ℕ) (h : i < length f) where
+  pub section-le : length (sectionAt file i) ≤ entryLength f i * getD mostEntries i 0
+  section-le =
+      omega (
+        arith,
+        length-section w i h,
+        w .whole-entries i h,
+        mul-le-mul-left (entryLength f i) (w .entries-in i h .1),
+      )
 
-  pub sized : (f : Form) → Whole (tableOf f) file → Sized f
-  sized Old w =
-      let u = length-section w 0 (omega arith) in
-      let r = length-section w 1 (omega arith) in
-      let f = length-section w 2 (omega arith) in
-      let h = length-section w 3 (omega arith) in
-      record {
-        unit = omega (arith, w .whole-entries 0 (omega arith), w .entries-in 0 (omega arith));
-        rise = omega (arith, w .whole-entries 1 (omega arith), w .entries-in 1 (omega arith));
-        fall = omega (arith, w .whole-entries 2 (omega arith), w .entries-in 2 (omega arith));
-        hours = omega (arith, w .whole-entries 3 (omega arith), w .entries-in 3 (omega arith));
-      }
-  sized Two w =
-      let u = length-section w 0 (omega arith) in
-      let r = length-section w 1 (omega arith) in
-      let f = length-section w 2 (omega arith) in
-      let h = length-section w 3 (omega arith) in
-      record {
-        unit = omega (arith, w .whole-entries 0 (omega arith), w .entries-in 0 (omega arith));
-        rise = omega (arith, w .whole-entries 1 (omega arith), w .entries-in 1 (omega arith));
-        fall = omega (arith, w .whole-entries 2 (omega arith), w .entries-in 2 (omega arith));
-        hours = omega (arith, w .whole-entries 3 (omega arith), w .entries-in 3 (omega arith));
-      }
+  pub section-one : getD mostEntries i 0 ≡ 1 → length (sectionAt file i) ≡ entryLength f i
+  section-one e =
+      let n : entriesAt f file i ≡ 1 = omega (arith, w .entries-in i h) in
+      length-section w i h ∙ sym (w .whole-entries i h) ∙ ap (λ k. entryLength f i * k) n ∙ mul-one (entryLength f i)
 
 -- the order byte is the last of an hour
 pub order-last : (f : Form) (part : List ℕ) (at : ℕ)

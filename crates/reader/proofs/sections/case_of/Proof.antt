@@ -1,17 +1,19 @@
 -- `reader::sections::case_of` meets its contract. The sections lie within the file and have lengths that fit; the case
 -- of a file is the case of its sections. Assumes nothing.
-use mathlib.Core.Path.{sym, ap, _∙_, subst}
+use mathlib.Core.Path.{_≡_, refl, sym, ap, _∙_, subst}
 use mathlib.Core.List.{List}
 use Prim.Native.Nat.{ℕ, _+_, _*_, _≤_, _<_}
 use native.Mathlib.Omega.{arith}
-use lib.ListN.{length}
-use Rattle.model.specs.Layout.{endAt, caseIn, caseOf}
+use lib.ListN.{length, getD}
+use Rattle.model.specs.Limits.{mostStages}
+use Rattle.model.specs.Forms.{mostEntries, entryLength}
+use Rattle.model.specs.Layout.{endAt, sectionAt, caseIn, caseOf}
 use Rattle.model.proofs.FormsLaws.{four-sections, known}
 use Rattle.model.proofs.AcceptedLaws.{Whole, linked, whole, ends}
 use Rattle.reader.specs.Sections.{trajectoryOf, dayOf, assembled}
 use Rattle.reader.specs.Tables.{tableOf}
-use Rattle.reader.proofs.TablesLaws.{sections-four}
-use Rattle.reader.proofs.SectionsLaws.{caseIn-sections, Sized, sized}
+use Rattle.reader.proofs.TablesLaws.{sections-four, entry-unit, entry-stage}
+use Rattle.reader.proofs.SectionsLaws.{caseIn-sections, section-le, section-one}
 use Rattle.reader.proofs.sections.case_of.Statement.{statement}
 use Rattle.reader.proofs.sections.case_of.Tie as tie
 
@@ -25,13 +27,22 @@ module _ (c : tie.After-form-of) where
       let s = c .before .before in
       subst (λ f. Whole f file) (sym (c .form-of .ensures)) (whole file (s .pre .0) (s .pre .1))
 
-  sizes : Sized file (c .form-of .result)
-  sizes = sized file (c .form-of .result) all
+  here : (i : ℕ) → i < 4 → i < length (tableOf (c .form-of .result))
+  here i h = omega (arith, sections-four (c .form-of .result))
 
   inside : (i : ℕ) → i < 4 → (4 * i + 4 ≤ length file) × (endAt file i ≤ length file)
-  inside i h =
-      let four = sections-four (c .form-of .result) in
-      (omega (arith, all .linked .long), ends all i (omega arith))
+  inside i h = (omega (arith, all .linked .long, here i h), ends all i (here i h))
+
+  -- a trajectory has two bytes for an output
+  stages-le : (i : ℕ) → (i ≡ 0 → ⊥) → i < 3 → getD mostEntries i 0 ≡ mostStages
+      → length (sectionAt file i) ≤ 2 * mostStages
+  stages-le i n h e =
+      omega (
+        arith,
+        section-le all i (here i (omega arith)),
+        ap (λ k. entryLength (tableOf (c .form-of .result)) i * k) e,
+        entry-stage (c .form-of .result) i n h,
+      )
 
 form-of-requires : tie.Need-form-of-requires
 form-of-requires c κs =
@@ -43,7 +54,8 @@ section-requires : tie.Need-section-requires
 section-requires c κs = inside c 1 (omega arith)
 
 read-trajectory-requires : tie.Need-read-trajectory-requires
-read-trajectory-requires c κs = omega (arith, ap length (c .section .ensures), sizes (c .before) .rise)
+read-trajectory-requires c κs =
+    omega (arith, ap length (c .section .ensures), stages-le (c .before) 1 (λ z. omega arith) (omega arith) refl)
 
 section-requires-2 : tie.Need-section-requires-2
 section-requires-2 c κs = inside (c .before .before) 2 (omega arith)
@@ -51,7 +63,7 @@ section-requires-2 c κs = inside (c .before .before) 2 (omega arith)
 read-trajectory-requires-2 : tie.Need-read-trajectory-requires-2
 read-trajectory-requires-2 c κs =
     let form = c .before .before .before in
-    omega (arith, ap length (c .section2 .ensures), sizes form .fall)
+    omega (arith, ap length (c .section2 .ensures), stages-le form 2 (λ z. omega arith) (omega arith) refl)
 
 section-requires-3 : tie.Need-section-requires-3
 section-requires-3 c κs = let form = c .before .before .before .before in inside form 3 (omega arith)
@@ -59,7 +71,7 @@ section-requires-3 c κs = let form = c .before .before .before .before in insid
 read-day-requires : tie.Need-read-day-requires
 read-day-requires c κs =
     let form = c .before .before .before .before .before in
-    omega (arith, ap length (c .section3 .ensures), sizes form .hours)
+    omega (arith, ap length (c .section3 .ensures), section-le (all form) 3 (here form 3 (omega arith)))
 
 section-requires-4 : tie.Need-section-requires-4
 section-requires-4 c κs =
@@ -69,7 +81,8 @@ section-requires-4 c κs =
 read-unit-requires : tie.Need-read-unit-requires
 read-unit-requires c κs =
     let form = c .before .before .before .before .before .before .before in
-    ap length (c .section4 .ensures) ∙ sizes form .unit
+    let unit = section-one (all form) 0 (here form 0 (omega arith)) refl in
+    ap length (c .section4 .ensures) ∙ unit ∙ sym (entry-unit (form .form-of .result) 0 refl)
 
 returns : tie.Need-returns
 unfolding caseOf
