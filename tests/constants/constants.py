@@ -1,9 +1,10 @@
 """Finds limits, sizes and bounds that stand as literals in crates/ where their names should.
 
 A limit of document 01 has one name in crates/model/src/lib.rt and one in its specs/Limits, a width of a file one in its
-specs/Forms, a bound of a sum one in crates/machine/specs/Bounds; a size is derived from them by formula. The second views of model/specs, Days, Promises
-and the program known_days hold the published numbers on purpose. A number that is a limit in one place and a rule's
-or a refusal's number in another counts only after a comparison, where it bounds something.
+specs/Forms, a bound of a sum one in crates/machine/specs/Bounds; a size is derived from them by formula. The second
+views of model/specs, Days, Promises and the program known_days hold the published numbers on purpose. A number
+that is a limit in one place and a rule's or a refusal's number in another counts only after a comparison, where it
+bounds something.
 """
 
 import pathlib
@@ -26,7 +27,7 @@ ALWAYS += [2147483647, 2147483648, 4294967295, 4294967296]
 BOUNDS = [7, 8, 9, 15, 16, 17, 20, 32, 52, 54]
 
 NUMBERS = "|".join(map(str, ALWAYS))
-LITERAL = re.compile(rf"(?<![\w.'·])(?<!\^ )(?:{NUMBERS})(?:(?:u8|u16|u32|u64|usize|i8|i16|i32|i64|isize)\b|(?![\w.']))")
+LITERAL = re.compile(rf"(?<![\w.'·])(?<!\^ )(?:{NUMBERS})(?:[iu](?:8|16|32|64|size)\b|(?![\w.']))")
 COMPARED = re.compile(rf"(?:≤|<|≡|<=|>=|==)\s(?:{'|'.join(map(str, BOUNDS))})(?![\w.'])")
 POWER = re.compile(r"(?<![\w'])2 \^ \d+")
 ASIDE = re.compile(r"(--|//).*$|^\s*(ghost )?use .*$|^#\[.*$")

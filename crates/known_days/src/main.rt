@@ -27,8 +27,8 @@ use model::Verdict;
 use model::WORK;
 use model::Written;
 
-// The hours of the source's day, and the bytes of its unit and of its trajectories, which have six outputs; the bytes of
-// its case in the old form and in form 2.
+// The hours of the source's day, and the bytes of its unit and of its trajectories, which have six outputs; the bytes
+// of its case in the old form and in form 2.
 const DAY: usize = 24;
 
 const UNIT: usize = UNIT_BYTES + 6 * STAGE_BYTES;

@@ -22,7 +22,8 @@ length-fieldBytes (w ∷ ws) (n ∷ ns) =
 
 -- ---- what is written is read
 -- a number between two lists
-numberAt-between : (front rest : List ℕ) (w n : ℕ) → n < 256 ^ w → numberAt (front ++ (bytes w n ++ rest)) (length front) w ≡ n
+numberAt-between : (front rest : List ℕ) (w n : ℕ) → n < 256 ^ w
+    → numberAt (front ++ (bytes w n ++ rest)) (length front) w ≡ n
 unfolding numberAt
 numberAt-between front rest w n h =
     ap (λ s. number (take w s)) (drop-append-seam front (bytes w n ++ rest))
@@ -39,7 +40,11 @@ fieldAt-between (w ∷ ws) (n ∷ ns) front rest zero h k b =
 fieldAt-between (w ∷ ws) (n ∷ ns) front rest (suc j) h k b =
     let e : length front + w ≡ length (front ++ bytes w n) =
     omega (arith, length-append front (bytes w n), length-bytes w n) in
-    rw (append-assoc (bytes w n) (fieldBytes ws ns) rest, ← append-assoc front (bytes w n) (fieldBytes ws ns ++ rest), e)
+    rw (
+      append-assoc (bytes w n) (fieldBytes ws ns) rest,
+      ← append-assoc front (bytes w n) (fieldBytes ws ns ++ rest),
+      e,
+    )
     (fieldAt-between ws ns (front ++ bytes w n) rest j (omega arith) (omega arith) b)
 
 -- a field within a part of a list

@@ -12,7 +12,8 @@ use Rattle.model.specs.declared.Case.{Case}
 use Rattle.model.specs.Limits.{mostStages, mostHours}
 use Rattle.model.specs.Symbols.{every}
 use Rattle.model.specs.Forms.{oldForm, newest, unknown}
-use Rattle.model.specs.Layout.{numberAt, offsetAt, lengthAt, endAt, sectionAt, formNumberAt, formOf, caseIn, caseOf}
+use Rattle.model.specs.Layout.{numberAt, offsetAt, lengthAt, endAt, sectionAt, formNumberAt, formOf, caseIn}
+use Rattle.model.specs.Layout.{caseOf}
 use Rattle.model.specs.Refusals.{within, fits, refusal1, refusal2File, refusal12, firstOf, fileTests, refusalOf}
 use Rattle.model.specs.Answers.{readingOf, readOf, outcomeNumber}
 use Rattle.model.specs.Published.{Counts, Limited, limit2, limit3, limit4, limit5, limit6, limit7, limit8}

@@ -1,5 +1,5 @@
--- The numbers of a file by its bytes: those of its sections stand at their offsets, so a whole file holds its record, and
--- the file of a record within the limits holds that record. Assumes nothing.
+-- The numbers of a file by its bytes: those of its sections stand at their offsets, so a whole file holds its record,
+-- and the file of a record within the limits holds that record. Assumes nothing.
 use mathlib.Core.Path.{_≡_, sym, ap, _∙_, subst}
 use mathlib.Core.Logic.{inl, inr}
 use mathlib.Core.List.{List, [], _∷_}
@@ -143,7 +143,8 @@ module _ (w : ℕ) (tail : Form) (file : List ℕ) (whole : Whole (pricedForm w 
   price-number k h =
       signed-of (section-number 3 (entryLength form 3 * k) w (omega (arith, hour-room k h)))
       (ap (λ m. m .0)
-      (padded-entry noMills _ _ (ap (λ d. d .prices) e) (ap (λ d. d .hours) e) (whole .entries-in 3 (omega arith) .1) k h))
+      (padded-entry noMills _ _ (ap (λ d. d .prices) e) (ap (λ d. d .hours) e)
+      (whole .entries-in 3 (omega arith) .1) k h))
 
   order-byte : (k : ℕ) → k < c .hours
       → getD file (word file 12 + (entryLength form 3 * k + w)) 0 ≡ getD (c .orders) k 0

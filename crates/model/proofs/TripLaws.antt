@@ -130,6 +130,7 @@ short-price (pos n) h = omega (arith, leb→le n (words - 1) (h .1 .le))
 short-price (negsuc n) h = absurd (h .0 .le)
 
 pub old-reads : (c : Case) → refusalOf c ≡ 0
-    → ((i : ℕ) → i < c .hours → (pos 0 ≤ℤ getD (c .prices) i noMills .0) × (getD (c .prices) i noMills .0 ≤ℤ pos (words - 1)))
+    → ((i : ℕ) → i < c .hours
+    → (pos 0 ≤ℤ getD (c .prices) i noMills .0) × (getD (c .prices) i noMills .0 ≤ℤ pos (words - 1)))
     → readOf (fileOf c oldForm) ≡ record { outcome = Accepted; case = zeroed c }
 old-reads c e low = fileOf-reads c e (λ k h. short-price (getD (c .prices) k noMills .0) (low k h))

@@ -1,5 +1,5 @@
--- The case of a file is the case of its sections, which are as long as their form says; the order byte is the last of an
--- hour. Assumes nothing.
+-- The case of a file is the case of its sections, which are as long as their form says; the order byte is the last of
+-- an hour. Assumes nothing.
 use mathlib.Core.Path.{_≡_, sym, ap, _∙_}
 use mathlib.Core.List.{List, []}
 use Prim.Native.Nat.{ℕ, _+_, _*_, _-_, _≤_, _<_}

@@ -1,6 +1,6 @@
 // The pairs of a case file, offset and length, the form that its first offset names, and refusals 1, 2 and 12 of a file
-// (model's specs/Layout, Refusals). Offsets and lengths are 16 bits wide in the file and reckoned with as usize, so that
-// no sum wraps.
+// (model's specs/Layout, Refusals). Offsets and lengths are 16 bits wide in the file and reckoned with as usize, so
+// that no sum wraps.
 ghost use mathlib.Core.Path.{_≡_};
 ghost use mathlib.Core.Bool.{false};
 ghost use Prim.Native.Nat.{_+_, _*_, _-_, _≤_, _<_};

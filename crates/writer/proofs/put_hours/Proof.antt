@@ -69,8 +69,8 @@ loop-again c =
     let order : ℕ → ℕ = λ k. getD (s .args .case .orders) k 0 in (
       omega arith,
       call .put-hour .kept .0 ∙ l .inv .1,
-      sets-step 5 _ (λ k. length-fieldBytes (4 ∷ 1 ∷ []) (price k ∷ order k ∷ [])) (s .args .out .now) (s .args .at) (l .i) (l .inv .2)
-          (call .put-hour .ensures),
+      sets-step 5 _ (λ k. length-fieldBytes (4 ∷ 1 ∷ []) (price k ∷ order k ∷ [])) (s .args .out .now) (s .args .at)
+          (l .i) (l .inv .2) (call .put-hour .ensures),
     )
 
 same-length : tie.Need-same-length Inv-loop μ-loop

@@ -53,8 +53,9 @@ loop-again c =
     let outputs = s .args .t3 in (
       omega arith,
       call .put-word .kept .0 ∙ l .inv .1,
-      sets-step 2 _ (λ k. length-fieldBytes (2 ∷ []) (getD outputs k noOutput .0 ∷ [])) (s .args .out .now) (s .args .at) (l .i)
-          (l .inv .2) (call .put-word .ensures ∙ ap (sets _ _) (one-field 2 (getD outputs (l .i) noOutput .0))),
+      sets-step 2 _ (λ k. length-fieldBytes (2 ∷ []) (getD outputs k noOutput .0 ∷ [])) (s .args .out .now)
+          (s .args .at) (l .i) (l .inv .2)
+          (call .put-word .ensures ∙ ap (sets _ _) (one-field 2 (getD outputs (l .i) noOutput .0))),
     )
 
 same-length : tie.Need-same-length Inv-loop μ-loop

@@ -29,7 +29,8 @@ module _ (file : List ℕ) (e : refusal1 file ≡ false) where
   unfolding refusal12 unknown
   new-unknown is n number =
       let first : offsetAt file 0 ≡ front = omega (arith, linked file e .first, ap length is) in
-      rw (ne-eqb (offsetAt file 0) oldFront (λ z. omega arith), number) (sym (and-true (not (eqb (formNumberAt file) 2))))
+      rw (ne-eqb (offsetAt file 0) oldFront (λ z. omega arith), number)
+      (sym (and-true (not (eqb (formNumberAt file) 2))))
     where
       and-true : (t : Bool) → (t && true) ≡ t
       and-true true = refl
@@ -58,7 +59,8 @@ returns-2 c =
     let told = c .before in
     let call = told .before .before in
     let s = call .before .before in
-    new-unknown (s .args .file .now) (s .pre .0) (ap tableOf (sym (told .enum-told2 .given .1)) ∙ call .form-of .ensures)
+    new-unknown (s .args .file .now) (s .pre .0)
+    (ap tableOf (sym (told .enum-told2 .given .1)) ∙ call .form-of .ensures)
     (c .form-number .result) (c .form-number .ensures)
 
 pub refusal12-spec : {M : Type 1} → statement M

@@ -54,7 +54,11 @@ fits-requires c κs =
     let loop = c .before .before .before .before in
     let call = loop .before in
     let form = call .before .form-of .result in
-    omega (arith, c .before .entry-bytes .ensures, entry-some form (loop .loop .i) (omega (arith, call .sections .ensures)))
+    omega (
+      arith,
+      c .before .entry-bytes .ensures,
+      entry-some form (loop .loop .i) (omega (arith, call .sections .ensures)),
+    )
 
 add-i : tie.Need-add-i Inv-loop μ-loop
 add-i c = omega arith

@@ -21,7 +21,8 @@ returns : tie.Need-returns
 returns c =
     let call = c .before in
     let a = call .before .before .args in
-    ap (λ n. getD (a .part .now) (a .at + (n - 1)) 0) (call .hour .ensures) ∙ order-last (a .form) (a .part .now) (a .at)
+    ap (λ n. getD (a .part .now) (a .at + (n - 1)) 0) (call .hour .ensures)
+    ∙ order-last (a .form) (a .part .now) (a .at)
 
 pub order-at-spec : {M : Type 1} → statement M
 order-at-spec =
