@@ -14,13 +14,13 @@ import sys
 ROOT = pathlib.Path(__file__).resolve().parents[2]
 
 NAMED = ("model/src/lib.rt", "model/specs/Limits.antt", "model/specs/Forms.antt", "machine/specs/Bounds.antt")
-VIEWS = tuple(f"model/{name}.antt" for name in ("specs/Published", "specs/Words", "specs/Days", "specs/Promises"))
+VIEWS = tuple(f"model/specs/{name}.antt" for name in ("Published", "Windows", "Words", "Days", "Promises"))
 VIEWS += ("model/proofs/Days.antt", "known_days/src/main.rt")
 # what stands for something else: the number of a refusal, the size of a 64-bit number
 NUMBERED = {"laws/proofs/Magnitude.antt": ["2 ^ 63"]}
 
 # hours, megawatts, working numbers, bytes, mills; sizes of the search, of the check and of the text
-ALWAYS = [25, 48, 49, 56, 63, 64, 144, 400, 796, 2800, 4096, 4097, 6400, 8192, 10000, 65535, 65536]
+ALWAYS = [25, 48, 49, 56, 63, 64, 144, 400, 796, 2800, 4096, 4097, 6400, 8192, 8784, 10000, 65535, 65536]
 ALWAYS += [168, 1000000, 9999999, 10000000, 11000000, 100000000, 600000000]
 ALWAYS += [2147483647, 2147483648, 4294967295, 4294967296]
 # stages, minimum times, offsets and their sums

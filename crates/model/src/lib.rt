@@ -32,6 +32,13 @@ pub const MOST_PRICE: i32 = 10000000;
 // The highest order byte: off-line.
 pub const MOST_ORDER: u8 = 2;
 
+// Hours: those of the longest year, and a day of the calendar at the least and at the most.
+pub const YEAR_HOURS: u16 = 8784;
+
+pub const SHORT_DAY: u16 = 23;
+
+pub const LONG_DAY: u16 = 25;
+
 // Signed 64-bit numbers that a search is lent to work in.
 pub const WORK: usize = 8192;
 
