@@ -3,6 +3,7 @@
 use model::Case;
 use model::Comparison;
 use model::HalfMills;
+use model::Hour;
 use model::Outcome;
 use model::Plan;
 use model::Reading;
@@ -12,6 +13,7 @@ ghost use mathlib.Core.Path.{_≡_};
 ghost use Rattle.model.specs.declared.Outcome.the-variants.{Accepted};
 ghost use Rattle.model.specs.Answers.{readOf, writeOf, checkOf, scheduleOf};
 ghost use Rattle.model.specs.Compared.{comparedOf};
+ghost use Rattle.model.specs.Calendar.{calendarOf};
 ghost use Rattle.giqapsun.specs.Boundary.{readingOut, writtenOut, verdictOut, planOut, choiceOut};
 
 // The number of a refusal, or 0, and the record: zeros beside a refusal.
@@ -139,6 +141,16 @@ fn choice_out(comparison: Comparison) -> GiqapsunChoice
     }
 }
 
+// The record as an accepted reading: what is behind it tests the record itself.
+fn as_read(case: Case) -> Reading
+    ensures { λ r. ⌜ r ≡ record { outcome = Accepted; case = case } ⌝ }
+{
+    Reading {
+        outcome: Outcome::Accepted,
+        case,
+    }
+}
+
 // Reads a case file.
 #[no_mangle]
 pub extern "C" fn giqapsun_read_2(file: &[u8]) -> GiqapsunReading
@@ -185,4 +197,28 @@ pub extern "C" fn giqapsun_best_2(case: Case, work: &mut [i64], outputs: &mut [u
         ≡ (scheduleOf Accepted case (now (work .entry)) (now (outputs .entry))) .outputs ⌝ }
 {
     plan_out(best::schedule(codec::admit(case), work, outputs))
+}
+
+// The best list of a record on the day that a calendar orders: the on-line and the off-line windows, and the day's first
+// hour and number of hours. Nothing is changed on 14, 15, 2 to 8, 13 and 10.
+#[no_mangle]
+pub extern "C" fn giqapsun_best_by_calendar_2(
+    case: Case,
+    on: &[u16],
+    off: &[u16],
+    first: Hour,
+    hours: Hour,
+    work: &mut [i64],
+    outputs: &mut [u16],
+) -> GiqapsunPlan
+    ensures answer { λ r. ⌜ r ≡ planOut ((calendarOf Accepted case (now (on .entry)) (now (off .entry)) (first .0)
+        (hours .0) (now (work .entry)) (now (outputs .entry))) .answer) ⌝ }
+    ensures work { λ _. ⌜ now (work .exit)
+        ≡ (calendarOf Accepted case (now (on .entry)) (now (off .entry)) (first .0) (hours .0) (now (work .entry))
+        (now (outputs .entry))) .work ⌝ }
+    ensures outputs { λ _. ⌜ now (outputs .exit)
+        ≡ (calendarOf Accepted case (now (on .entry)) (now (off .entry)) (first .0) (hours .0) (now (work .entry))
+        (now (outputs .entry))) .outputs ⌝ }
+{
+    plan_out(calendar::schedule_by_calendar(as_read(case), on, off, first, hours, work, outputs))
 }

@@ -1,0 +1,2 @@
+-- Definitions that the contracts of the crate's own functions cite.
+pub mod Marked
