@@ -1,7 +1,8 @@
-// The days whose answers are known from outside: the twelve of the scope on its small unit, pairs of lists and prices
-// below zero and far above it on that unit, and the days of the source, whose case is read from standard input in the
-// old form and written in form 2. Prints one line for each: what was asked, and the answer of best::schedule, of
-// rules::check, of offers::compare with the part of offers::better, or of codec::write.
+// The days whose answers are known from outside: the twelve of the scope on its small unit, pairs of lists, prices below
+// zero and far above it and days of a calendar on that unit, and the days of the source, whose case is read from
+// standard input in the old form and written in form 2. Prints one line for each: what was asked, and the answer of
+// best::schedule, of rules::check, of offers::compare with the part of offers::better, of calendar::schedule_by_calendar,
+// or of codec::write.
 use libc::STDIN_FILENO;
 use libc::STDOUT_FILENO;
 use model::Case;
@@ -15,6 +16,7 @@ use model::MOST_PRICE;
 use model::Mills;
 use model::OLD_HOUR_BYTES;
 use model::OLD_SECTIONS;
+use model::Outcome;
 use model::Output;
 use model::PAIR_BYTES;
 use model::Plan;
@@ -67,23 +69,46 @@ fn print_list(outputs: &[u16], hours: usize) {
     }
 }
 
-// The best list.
-fn print_best(name: &[u8], reading: Reading) {
-    let mut work = [0i64; WORK];
-    let mut outputs = [0u16; HOURS];
-    let case = reading.case;
+// A plan, and the list that was found.
+fn print_plan(name: &[u8], plan: Plan, outputs: &[u16], hours: usize) {
     io::write_all(STDOUT_FILENO, name);
-    match best::schedule(reading, &mut work, &mut outputs) {
+    match plan {
         Plan::Found(profit) => {
             print_profit(profit);
             io::write_all(STDOUT_FILENO, b" list");
-            print_list(&outputs, case.hours);
+            print_list(outputs, hours);
         }
         Plan::Refused(number) => {
             print_number(b" refused ", number as u64);
         }
     }
     io::write_all(STDOUT_FILENO, b"\n");
+}
+
+// The best list.
+fn print_best(name: &[u8], reading: Reading) {
+    let mut work = [0i64; WORK];
+    let mut outputs = [0u16; HOURS];
+    let case = reading.case;
+    let plan = best::schedule(reading, &mut work, &mut outputs);
+    print_plan(name, plan, &outputs, case.hours);
+}
+
+// The best list on a day of the year, by its on-line and off-line windows.
+fn print_day(name: &[u8], reading: Reading, on: &[u16], off: &[u16], first: Hour, hours: Hour) {
+    let mut work = [0i64; WORK];
+    let mut outputs = [0u16; HOURS];
+    let case = reading.case;
+    let plan = calendar::schedule_by_calendar(
+        reading,
+        on,
+        off,
+        first,
+        hours,
+        &mut work,
+        &mut outputs,
+    );
+    print_plan(name, plan, &outputs, case.hours);
 }
 
 // The verdict of a list.
@@ -287,6 +312,112 @@ fn print_limits() {
     );
 }
 
+// A day of the unit off-line at a price of F, with one order for every hour: what is ordered on-line costs.
+fn quiet(hours: usize, order: u8) -> Reading {
+    small(
+        Output(0),
+        Hour(2),
+        Hour(1),
+        hours,
+        Mills(10),
+        [order; HOURS],
+    )
+}
+
+// That day of 24 hours from hour 100 of the year on, with on-line windows, or with off-line windows, alone.
+fn print_on(name: &[u8], on: &[u16]) {
+    print_day(name, quiet(24, 0), on, &[0u16; 0], Hour(100), Hour(24));
+}
+
+fn print_off(name: &[u8], reading: Reading, off: &[u16]) {
+    print_day(name, reading, &[0u16; 0], off, Hour(100), Hour(24));
+}
+
+// With no window at all.
+fn print_open(name: &[u8], reading: Reading, first: Hour, hours: Hour) {
+    print_day(name, reading, &[0u16; 0], &[0u16; 0], first, hours);
+}
+
+// Days of 23 and 25 hours; a window holds its first hour and not the hour after its last; windows that touch.
+fn print_windows() {
+    print_open(b"23 hours, no window", quiet(23, 0), Hour(100), Hour(23));
+    print_day(
+        b"25 hours on-line",
+        quiet(25, 0),
+        &[100u16, 25],
+        &[0u16; 0],
+        Hour(100),
+        Hour(25),
+    );
+    print_on(b"hour 2 on-line", &[101u16, 1]);
+    print_on(b"ends at hour 1", &[90u16, 10]);
+    print_on(b"begins after hour 24", &[124u16, 10]);
+    print_on(b"touching", &[100u16, 2, 102, 2]);
+}
+
+// The windows replace the case's own orders, which 8 still tests; a start that the unit cannot make is 11.
+fn print_replaced() {
+    let late = small(Output(0), Hour(1), Hour(2), 24, Mills(10), [0u8; HOURS]);
+    print_off(
+        b"own on-line, off-line by a window",
+        quiet(24, 1),
+        &[100u16, 24],
+    );
+    print_open(b"own on-line, no window", quiet(24, 1), Hour(100), Hour(24));
+    print_off(b"own order 3", quiet(24, 3), &[100u16, 24]);
+    print_day(
+        b"too early",
+        late,
+        &[100u16, 1],
+        &[0u16; 0],
+        Hour(100),
+        Hour(24),
+    );
+}
+
+// 15: both lists hold an hour of the day, and not only one of another day.
+fn print_meeting(name: &[u8], first: Hour) {
+    print_day(
+        name,
+        quiet(24, 0),
+        &[100u16, 2],
+        &[101u16, 2],
+        first,
+        Hour(24),
+    );
+}
+
+// 2: T is not the day's number of hours, also where the record would be refused by 3.
+fn print_other_day() {
+    let reading = quiet(24, 0);
+    let mut case = reading.case;
+    let minimum = Output(0);
+    case.minimum = minimum;
+    let wrong = Reading {
+        outcome: Outcome::Accepted,
+        case,
+    };
+    print_open(b"T 24 of 23 hours", reading, Hour(100), Hour(23));
+    print_open(b"T 24 of 23 hours, minimum 0", wrong, Hour(100), Hour(23));
+    print_open(b"T 24 of 24 hours, minimum 0", wrong, Hour(100), Hour(24));
+}
+
+// 14: windows that are not whole, empty, unsorted, overlapping or past the year.
+fn print_misplaced() {
+    print_on(b"odd", &[100u16]);
+    print_on(b"unsorted", &[200u16, 5, 100, 5]);
+    print_on(b"past 8784", &[8783u16, 2]);
+    print_off(b"empty", quiet(24, 0), &[100u16, 0]);
+    print_off(b"overlapping", quiet(24, 0), &[100u16, 5, 104, 5]);
+}
+
+// The last day of the year; 14 for a day past it and for one of another length.
+fn print_edges() {
+    print_open(b"day up to 8784", quiet(24, 0), Hour(8760), Hour(24));
+    print_open(b"day past 8784", quiet(24, 0), Hour(8761), Hour(24));
+    print_open(b"day of 22 hours", quiet(22, 0), Hour(100), Hour(22));
+}
+
 // The prices of two days that are alike.
 fn twice(prices: [Mills; HOURS]) -> [Mills; HOURS] {
     let mut both = prices;
@@ -367,6 +498,13 @@ fn main() {
     print_refused_pairs();
     print_prices();
     print_limits();
+    print_windows();
+    print_replaced();
+    print_meeting(b"both lists", Hour(100));
+    print_meeting(b"both lists, another day", Hour(200));
+    print_other_day();
+    print_misplaced();
+    print_edges();
     let mut file = [0u8; SOURCE + 1];
     let n = io::read_full(STDIN_FILENO, &mut file);
     print_source(&file[..n]);
