@@ -1,9 +1,10 @@
 /*
  * Giqapsun: the day of one thermal power unit.
  *
- * Five calls: read a case file, write a case file, check a list of hourly outputs, find the list that
- * earns most, tell the better of two lists. Structs go by value; a slice is a pointer and then its length
- * in elements, not bytes. The calls allocate nothing and keep nothing from one call to the next.
+ * Six calls: read a case file, write a case file, check a list of hourly outputs, find the list that
+ * earns most, by the case's own hour orders or by those of a calendar, tell the better of two lists.
+ * Structs go by value; a slice is a pointer and then its length in elements, not bytes. The calls allocate
+ * nothing and keep nothing from one call to the next.
  *
  * Units
  *
@@ -20,10 +21,15 @@
  *
  * Refusals: the `number` of an answer. 0 is no refusal. The conditions are tested in the order of this
  * list, and the first that applies is given. giqapsun_read tests 1 to 8, 12 and 13; giqapsun_write 2 to 8,
- * 13 and 10; giqapsun_check and giqapsun_better 2 to 8, 13 and 9; giqapsun_best 2 to 8, 13, 10 and 11.
+ * 13 and 10; giqapsun_check and giqapsun_better 2 to 8, 13 and 9; giqapsun_best 2 to 8, 13, 10 and 11;
+ * giqapsun_best_by_calendar 14, 15, 2 to 8, 13, 10 and 11.
  *
+ *   14  a list of windows not of whole pairs; a window empty, unsorted or overlapping its neighbour; a day
+ *       not of 23 to 25 hours; or first hour plus length of a window or of the day above 8,784
+ *   15  an hour of the day in both lists of windows
  *   1   file under 16 bytes, or pairs not as laid down
- *   2   a section length, or a count in a record, not as laid down
+ *   2   a section length, or a count in a record, not as laid down; by calendar, T not the day's number of
+ *       hours
  *   12  form number not 2
  *   3   minimum output 0 or above capacity, or capacity above 400
  *   4   RU or RD outside 1 to 400, or a minimum time outside 1 to 8
@@ -59,8 +65,9 @@
  * says what 11 says.
  *
  * Lent memory: every pointer is valid for its length, aligned for its type and not null, also where the
- * length is 0; lent slices do not overlap, but the two lists of giqapsun_better, which are only read, may.
- * Each call below says what it changes; nothing else is changed.
+ * length is 0; lent slices do not overlap, but the two lists of giqapsun_better, and the two of windows of
+ * giqapsun_best_by_calendar, which are only read, may overlap each other. Each call below says what it
+ * changes; nothing else is changed.
  *
  * Calling convention: that of C on x86-64 Linux (System V), in which a record by value is copied to the
  * stack. GIQAPSUN_STACK_READ and the like say how many bytes of stack a call takes, that record included.
@@ -109,7 +116,7 @@ extern "C" {
 #endif
 
 /* Version of the product. */
-#define GIQAPSUN_VERSION "2.0.0"
+#define GIQAPSUN_VERSION "2.1.0"
 
 /*
  * Number of the layout: it changes with every change of a struct below, and each function of the library
@@ -126,12 +133,13 @@ extern "C" {
 #define giqapsun_check GIQAPSUN_NAMED(giqapsun_check, GIQAPSUN_LAYOUT)
 #define giqapsun_best GIQAPSUN_NAMED(giqapsun_best, GIQAPSUN_LAYOUT)
 #define giqapsun_better GIQAPSUN_NAMED(giqapsun_better, GIQAPSUN_LAYOUT)
+#define giqapsun_best_by_calendar GIQAPSUN_NAMED(giqapsun_best_by_calendar, GIQAPSUN_LAYOUT)
 
 /* Entries that a record has room for: outputs of a trajectory, hours of a day. */
 #define GIQAPSUN_STAGES 8
 #define GIQAPSUN_HOURS 48
 
-/* Signed 64-bit numbers that giqapsun_best is lent to work in. */
+/* Signed 64-bit numbers that giqapsun_best and giqapsun_best_by_calendar are lent to work in. */
 #define GIQAPSUN_WORK 8192
 
 /* Bytes of stack that each call takes at the most. */
@@ -140,6 +148,7 @@ extern "C" {
 #define GIQAPSUN_STACK_CHECK 4096
 #define GIQAPSUN_STACK_BEST 49152
 #define GIQAPSUN_STACK_BETTER 4096
+#define GIQAPSUN_STACK_CALENDAR 49152
 
 /* Bytes of the longest file: pairs, unit, two trajectories, hours, form number. */
 #define GIQAPSUN_FILE_MOST (20 + 32 + 2 * GIQAPSUN_STAGES * 2 + 5 * GIQAPSUN_HOURS + 2)
@@ -147,6 +156,11 @@ extern "C" {
 /* The lowest and the highest price, mills per MWh. */
 #define GIQAPSUN_PRICE_LEAST (-10000000)
 #define GIQAPSUN_PRICE_MOST 10000000
+
+/* Hours of the longest year, and the fewest and the most of a day of the calendar. */
+#define GIQAPSUN_YEAR_HOURS 8784
+#define GIQAPSUN_DAY_LEAST 23
+#define GIQAPSUN_DAY_MOST 25
 
 /* Orders of an hour. */
 #define GIQAPSUN_FREE 0
@@ -245,6 +259,27 @@ struct giqapsun_plan giqapsun_best(struct giqapsun_case c, int64_t *work, size_t
  */
 struct giqapsun_choice giqapsun_better(struct giqapsun_case c, const uint16_t *first, size_t n,
                                        const uint16_t *second, size_t m);
+
+/*
+ * Finds the list of giqapsun_best for the case with the hour orders of a calendar: they replace those of the
+ * case, which are still tested.
+ *
+ * Hours of the year are counted from 0, its first hour. `on` has a numbers, the on-line windows of the year,
+ * and `off` has b, the off-line ones: two numbers for each window, its first hour and its length in hours,
+ * sorted by first hour. A window holds its first hour and not the hour after its last, so windows may touch.
+ * The day begins at hour `first` of the year and has `hours` hours, GIQAPSUN_DAY_LEAST to GIQAPSUN_DAY_MOST;
+ * T is that number. First hour plus length of a window, and of the day, is GIQAPSUN_YEAR_HOURS at most. C
+ * passes the low 16 bits of a larger `first` or `hours`.
+ *
+ * Hour k of the day is hour first + k - 1 of the year: on-line if a window of `on` holds it, off-line if one
+ * of `off` does, else free. The two lists may meet outside the day; either may be empty or of any length.
+ *
+ * n, m and what is changed are as for giqapsun_best; the windows are only read.
+ */
+struct giqapsun_plan giqapsun_best_by_calendar(struct giqapsun_case c, const uint16_t *on, size_t a,
+                                               const uint16_t *off, size_t b, uint16_t first,
+                                               uint16_t hours, int64_t *work, size_t n,
+                                               uint16_t *outputs, size_t m);
 
 #ifdef __cplusplus
 }

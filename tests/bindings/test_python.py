@@ -1,5 +1,5 @@
-"""The Python module: known days, the source's day, both forms of a file, prices below 0, the better of two lists,
-refusals, numbers that fit no record, the library that it loads, and the module as it is installed."""
+"""The Python module: known days, the source's day, both forms of a file, prices below 0, the better of two lists, days
+by calendar, refusals, numbers that fit no record, the library that it loads, and the module as it is installed."""
 
 import doctest
 import os
@@ -18,7 +18,7 @@ from pathlib import Path
 
 import giqapsun
 from giqapsun import Breaks, Case, First, Neither, Passes, Plan, Refusal, Second
-from giqapsun import best, better, check, compare, read, write
+from giqapsun import best, best_by_calendar, better, check, compare, read, write
 
 ROOT = Path(__file__).resolve().parents[2]
 CASE_7 = (ROOT / "cases/case7.case").read_bytes()
@@ -218,14 +218,150 @@ class Pairs(unittest.TestCase):
                     self.given(case, plan.outputs, other, First(plan.profit))
 
 
-class Refusals(unittest.TestCase):
-    """Refused calls."""
+class Refusing(unittest.TestCase):
+    """Tests of calls of which some are refused."""
 
     def refused(self, number, call, *arguments):
         """The call is refused with this number."""
         with self.assertRaises(Refusal) as caught:
             call(*arguments)
         self.assertEqual(caught.exception.number, number)
+
+
+class Calendar(Refusing):
+    """Days by the windows of the year."""
+
+    # windows about hours 2,400 to 2,424 of the year: on-line ones that touch, and off-line ones that touch them
+    ON, OFF = [2390, 3, 2393, 2, 2404, 4, 2408, 3, 2424, 1], [2300, 7, 2395, 4, 2411, 3, 2420, 2, 2460, 300]
+
+    @staticmethod
+    def day(hours):
+        """Case 7's unit, on hours whose prices lead it up and down; its own orders are off-line, which no list keeps."""
+        prices = [5 if hour % 9 < 4 else 20 for hour in range(hours)]
+        return replace(read(CASE_7), prices=prices, orders=[giqapsun.OFF] * hours)
+
+    @staticmethod
+    def filled(on, off, first, hours):
+        """The orders that windows stand for."""
+        orders = [giqapsun.FREE] * giqapsun.YEAR_HOURS
+        for windows, order in ((on, giqapsun.ON), (off, giqapsun.OFF)):
+            for begin, length in zip(windows[::2], windows[1::2]):
+                orders[begin : begin + length] = [order] * length
+        return orders[first : first + hours]
+
+    def planned(self, on, off, first, hours):
+        """The list by calendar is the best one by the orders; the case stays as it was."""
+        case = self.day(hours)
+        plan = best_by_calendar(case, on, off, first, hours)
+        self.assertEqual(plan, best(replace(case, orders=self.filled(on, off, first, hours))))
+        self.assertEqual(case, self.day(hours))
+
+    def test_days(self):
+        """Days of each number of hours, with the hour orders at their ends."""
+        self.refused(11, best, self.day(24))
+        for hours in giqapsun.DAY_HOURS:
+            for first in (0, 2390, 2399, 2400, 2401, giqapsun.YEAR_HOURS - hours):
+                with self.subTest(hours=hours, first=first):
+                    self.planned(self.ON, self.OFF, first, hours)
+                    self.planned([], [], first, hours)
+                    self.planned([0, giqapsun.YEAR_HOURS], [], first, hours)
+        self.assertEqual(self.filled(self.ON, self.OFF, 2400, 25)[2:14], [0, 0] + [1] * 7 + [2] * 3)
+
+    def test_source_day(self):
+        """With no window in the day it is as without a calendar; an outage of its hours 7 to 12 is kept, and costs."""
+        case = read(SOURCE)
+        self.assertEqual(best_by_calendar(case, [], [2406, 6], 5000, 24), best(case))
+        plan = best_by_calendar(case, on=[], off=[2406, 6], first=2400, hours=24)
+        self.assertEqual(plan.outputs[6:12], [0] * 6)
+        ordered = replace(case, orders=[0] * 6 + [giqapsun.OFF] * 6 + [0] * 12)
+        self.assertEqual(check(ordered, plan.outputs), Passes(plan.profit))
+        self.assertLess(plan.profit, 33_546_962)
+
+    def test_own_orders(self):
+        """Orders of the case are replaced, and tested first."""
+        for order in (giqapsun.FREE, giqapsun.ON, giqapsun.OFF):
+            case = replace(self.day(24), orders=[order] * 24)
+            plan = best_by_calendar(self.day(24), self.ON, self.OFF, 2400, 24)
+            self.assertEqual(best_by_calendar(case, self.ON, self.OFF, 2400, 24), plan)
+        for hour in (0, 10, 23):
+            case = self.day(24)
+            case.orders[hour] = 3
+            self.refused(8, best_by_calendar, case, self.ON, self.OFF, 2400, 24)
+
+    def test_kinds(self):
+        """Lists of any kind, and whole numbers of other kinds."""
+        plan = best_by_calendar(self.day(24), self.ON, self.OFF, 2400, 24)
+        kinds = (list, tuple, iter, Listed, lambda entries: array("H", entries), lambda entries: map(Index, entries))
+        for kind in kinds:
+            for other in kinds:
+                lists = kind(self.ON), other(self.OFF)
+                self.assertEqual(best_by_calendar(self.day(24), *lists, Index(2400), Index(24)), plan)
+        for empty in ([], (), array("H"), iter(())):
+            self.assertEqual(
+                best_by_calendar(self.day(24), empty, self.OFF, 2400, 24),
+                best_by_calendar(self.day(24), [], self.OFF, 2400, 24),
+            )
+
+    def test_whole_year(self):
+        """As many windows as there are hours; more numbers than that are no windows."""
+        each = [number for hour in range(giqapsun.YEAR_HOURS) for number in (hour, 1)]
+        self.planned(each, [], 2400, 24)
+        self.refused(15, best_by_calendar, self.day(24), each, each, 2400, 24)
+        self.refused(14, best_by_calendar, self.day(24), each * 6, [], 2400, 24)
+
+    def test_refusals_of_a_list(self):
+        """Each reason of 14, in either list, whatever the other is and wherever the day."""
+        year = giqapsun.YEAR_HOURS
+        self.planned([5, 2, 7, 1, year - 1, 1], [], 2400, 24)
+        for wrong in (
+            [5], [5, 2, 9],  # not of whole pairs
+            [5, 0], [5, 2, 7, 0],  # empty
+            [50, 2, 5, 2], [5, 2, 4, 1],  # unsorted
+            [5, 2, 6, 1], [5, 2, 5, 2],  # overlapping
+            [year - 1, 2], [year, 1], [0, year + 1], [65_535, 1], [65_535, 65_535],  # past the year
+        ):
+            for other in ([], self.ON, wrong):
+                with self.subTest(wrong=wrong, other=other):
+                    self.refused(14, best_by_calendar, self.day(24), wrong, other, 2400, 24)
+                    self.refused(14, best_by_calendar, self.day(24), other, wrong, 2400, 24)
+
+    def test_refusals_of_a_day(self):
+        for hours in (0, 22, 26, 48, 65_535):
+            self.refused(14, best_by_calendar, self.day(24), [], [], 2400, hours)
+        for hours in giqapsun.DAY_HOURS:
+            for first in (giqapsun.YEAR_HOURS - hours + 1, giqapsun.YEAR_HOURS, 65_536 - hours, 65_535):
+                self.refused(14, best_by_calendar, self.day(hours), [], [], first, hours)
+
+    def test_both_lists(self):
+        """15 looks at the hours of the day alone."""
+        for hour in (2400, 2411, 2423):
+            self.refused(15, best_by_calendar, self.day(24), [hour, 1], [2390, 60], 2400, 24)
+        for hour in (2399, 2424):
+            self.planned([2390, 10, hour + 30, 1], [hour + 30, 1], 2400, 24)
+            self.assertEqual(
+                best_by_calendar(self.day(24), [hour, 1], [hour, 1], 2400, 24),
+                best_by_calendar(self.day(24), [], [], 2400, 24),
+            )
+
+    def test_order_of_the_tests(self):
+        """14, 15, 2, 3, 8, 13, 11."""
+        case = replace(self.day(24), prices=[giqapsun.PRICE_MOST + 1] * 24)
+        self.refused(13, best_by_calendar, case, [], [2400, 1], 2400, 24)
+        case.orders = [3] * 24
+        self.refused(8, best_by_calendar, case, [], [2400, 1], 2400, 24)
+        case.minimum = 0
+        self.refused(3, best_by_calendar, case, [], [2400, 1], 2400, 24)
+        for hours in (23, 25):
+            self.refused(2, best_by_calendar, case, [], [2400, 1], 2400, hours)
+            self.refused(15, best_by_calendar, case, [2400, 1], [2400, 1], 2400, hours)
+            self.refused(14, best_by_calendar, case, [2400, 1], [2400, 1, 2401], 2400, hours)
+        self.refused(2, best_by_calendar, Case(), [], [], 2400, 24)
+        self.refused(2, best_by_calendar, replace(self.day(24), rise=[]), [], [], 2400, 24)
+        self.refused(11, best_by_calendar, self.day(24), [], [2400, 1], 2400, 24)
+
+
+class Refusals(Refusing):
+    """Refused calls."""
 
     def test_of_a_file(self):
         self.refused(1, read, b"")
@@ -297,7 +433,8 @@ class Refusals(unittest.TestCase):
     def test_text(self):
         self.assertEqual(str(Refusal(8)), "refused 8: an order byte above 2")
         self.assertEqual(str(Refusal(12)), "refused 12: form number not 2")
-        self.assertEqual((Refusal(14).number, Refusal(14).text), (14, "a number that is not in the refusal list"))
+        self.assertEqual(str(Refusal(15)), "refused 15: an hour of the day in both lists of windows")
+        self.assertEqual((Refusal(16).number, Refusal(16).text), (16, "a number that is not in the refusal list"))
         self.assertEqual(pickle.loads(pickle.dumps(Refusal(3))).number, 3)
 
     def test_texts_are_those_of_the_tables(self):
@@ -329,7 +466,7 @@ class Widths(unittest.TestCase):
             {"orders": [0, 0]},
         ):
             with self.subTest(**changed):
-                for call in (write, best):
+                for call in (write, best, lambda case: best_by_calendar(case, [], [], 0, 24)):
                     self.assertRaises(ValueError, call, replace(case, **changed))
         with self.assertRaises(ValueError) as caught:
             write(replace(case, prices=[5, 5, -(2**40)]))
@@ -351,6 +488,22 @@ class Widths(unittest.TestCase):
             self.faults(case, [2, 1, output], whole)
         for wrong in (None, 5, 2.5, {2: 1}, {2, 1, 0}, map(int, "210"), (output for output in (2, 1, 0))):
             self.faults(case, wrong, f"{wrong!r} is not a list of whole numbers")
+
+    def test_of_a_calendar(self):
+        """The fault names the list, or the number of the day; a list of pairs is none of numbers."""
+        for number in (65_536, -1, 1.0, "1", True, None, (2400, 4)):
+            whole = f"{number!r} is not a whole number from 0 to 65535"
+            for name, wrong in (("on", [2400, number]), ("off", [number]), ("first", number), ("hours", number)):
+                self.faulty(f"{name}: {whole}", **{name: wrong})
+        for wrong in (None, 5, 2.5):
+            for name in ("on", "off"):
+                self.faulty(f"{name}: {wrong!r} is not a list of whole numbers", **{name: wrong})
+
+    def faulty(self, text, **wrong):
+        """The day by calendar with a wrong argument is the fault."""
+        with self.assertRaises(ValueError) as caught:
+            best_by_calendar(read(SOURCE), **{"on": [], "off": [], "first": 2400, "hours": 24, **wrong})
+        self.assertEqual(str(caught.exception), text)
 
     def faults(self, case, wrong, text):
         """The wrong list is named in either place, the first where both are wrong."""
@@ -411,7 +564,7 @@ class Kinds(unittest.TestCase):
 
     def test_types(self):
         self.assertTrue((Path(giqapsun.__file__).parent / "py.typed").exists())
-        for call in (read, write, check, best, compare, better, giqapsun.library_file):
+        for call in (read, write, check, best, best_by_calendar, compare, better, giqapsun.library_file):
             hints = typing.get_type_hints(call)
             self.assertEqual(len(hints), call.__code__.co_argcount + 1)
         for kind in (Case, Passes, Breaks, Plan, First, Second, Neither):
@@ -423,6 +576,11 @@ class Kinds(unittest.TestCase):
         struct = re.search(r"struct giqapsun_case \{(.*?)\};", header, re.DOTALL)[1]
         names = re.findall(r"^\s*\w+ (\w+)(?:\[\w+\])?;", struct, re.MULTILINE)
         self.assertEqual(names, [field.name for field in fields(Case)] + ["rises", "falls", "hours"])
+
+    def test_constants(self):
+        self.assertEqual((giqapsun.YEAR_HOURS, giqapsun.DAY_HOURS), (8784, (23, 24, 25)))
+        for name in giqapsun.__all__:
+            self.assertTrue(hasattr(giqapsun, name), name)
 
     def test_version(self):
         """The module's version is the header's, where the header says one."""
@@ -455,11 +613,12 @@ class Library(unittest.TestCase):
         return self.run_python(text, PYTHONPATH=str(ROOT / "bindings/python"), **environment)[1]
 
     def test_complaints(self):
-        calls = ("read", "write", "check", "best")
+        calls = ("read", "write", "check", "best", "better")
         for functions, lacks, reason in (
             (["giqapsun_read"], "giqapsun_read_2", "it is no library of layout 2"),
             ([f"giqapsun_{call}_1" for call in calls], "giqapsun_read_2", "it is no library of layout 2"),
-            ([f"giqapsun_{call}_2" for call in calls], "giqapsun_better_2", "it is of an earlier version"),
+            ([f"giqapsun_{call}_2" for call in calls[:4]], "giqapsun_better_2", "it is of an earlier version"),
+            ([f"giqapsun_{call}_2" for call in calls], "giqapsun_best_by_calendar_2", "it is of an earlier version"),
         ):
             text = "".join(f"int {function}(void) {{ return 0; }}\n" for function in functions)
             (self.folder / "stub.c").write_text(text)

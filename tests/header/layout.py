@@ -5,6 +5,11 @@ import ctypes
 import giqapsun
 from giqapsun import _boundary as boundary
 
+CONSTANTS = (
+    "LAYOUT", "STAGES", "HOURS", "WORK", "FILE_MOST", "PRICE_LEAST", "PRICE_MOST", "YEAR_HOURS", "DAY_LEAST",
+    "DAY_MOST",
+)
+
 
 def sign(kind):
     """The sign of a field, as layout.c prints it."""
@@ -17,7 +22,7 @@ def sign(kind):
 
 def main():
     """Every constant, structure and field."""
-    for name in ("LAYOUT", "STAGES", "HOURS", "WORK", "FILE_MOST", "PRICE_LEAST", "PRICE_MOST"):
+    for name in CONSTANTS:
         print(name, getattr(boundary, name))
     for name in ("FREE", "ON", "OFF"):
         print(name, getattr(giqapsun, name))

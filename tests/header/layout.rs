@@ -50,6 +50,9 @@ fn main() {
     println!("FILE_MOST {}", boundary::FILE_MOST);
     println!("PRICE_LEAST {}", boundary::PRICE_LEAST);
     println!("PRICE_MOST {}", boundary::PRICE_MOST);
+    println!("YEAR_HOURS {}", boundary::YEAR_HOURS);
+    println!("DAY_LEAST {}", boundary::DAY_LEAST);
+    println!("DAY_MOST {}", boundary::DAY_MOST);
     println!("FREE {}", boundary::FREE);
     println!("ON {}", boundary::ON);
     println!("OFF {}", boundary::OFF);

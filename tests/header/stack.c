@@ -16,10 +16,14 @@
 
 static unsigned char stack[STACK_BYTES] __attribute__((aligned(64)));
 
-static struct giqapsun_case largest;
+/* The largest case, and its first hours as a day of the calendar. */
+static struct giqapsun_case largest, longest_day;
 static uint8_t file[GIQAPSUN_FILE_MOST];
 static int64_t work[GIQAPSUN_WORK];
 static uint16_t outputs[GIQAPSUN_HOURS];
+
+/* The year's windows; of that day, from hour 100 of the year, hours 9 and 10 are on-line, 20 to 22 off-line. */
+static const uint16_t on[] = {90, 10, 108, 2}, off[] = {119, 2, 121, 1};
 
 /* Numbers of the answers; all are 0. */
 static uint32_t numbers;
@@ -50,6 +54,14 @@ static void call_better(void)
     numbers |= giqapsun_better(largest, outputs, GIQAPSUN_HOURS, outputs, GIQAPSUN_HOURS).number;
 }
 
+static void call_best_by_calendar(void)
+{
+    numbers |= giqapsun_best_by_calendar(longest_day, on, sizeof on / sizeof *on, off,
+                                         sizeof off / sizeof *off, 100, GIQAPSUN_DAY_MOST, work,
+                                         GIQAPSUN_WORK, outputs, GIQAPSUN_HOURS)
+                   .number;
+}
+
 /* The calls in an order in which each has what it needs. */
 static struct {
     const char *name;
@@ -61,6 +73,7 @@ static struct {
     {"best", call_best, GIQAPSUN_STACK_BEST, 0},
     {"check", call_check, GIQAPSUN_STACK_CHECK, 0},
     {"better", call_better, GIQAPSUN_STACK_BETTER, 0},
+    {"best_by_calendar", call_best_by_calendar, GIQAPSUN_STACK_CALENDAR, 0},
 };
 
 #define CALLS (sizeof calls / sizeof *calls)
@@ -77,8 +90,9 @@ static size_t used(void (*call)(void))
     return (size_t)(here - stack) - unused;
 }
 
-/* A day of 48 hours that lead the unit up, down and off-line, with 400 MW and trajectories of 8 stages. */
-static void fill_largest(void)
+/* A day of 48 hours that lead the unit up, down and off-line, with 400 MW and trajectories of 8 stages; and
+   one of the first 25 of them. */
+static void fill_days(void)
 {
     largest.capacity = largest.rampup = largest.rampdown = 400;
     largest.minimum = GIQAPSUN_STAGES;
@@ -92,12 +106,14 @@ static void fill_largest(void)
     }
     for (uint16_t k = 0; k < GIQAPSUN_HOURS; k++)
         largest.prices[k] = k / 12 % 2 == 0 ? GIQAPSUN_PRICE_MOST : GIQAPSUN_PRICE_LEAST;
+    longest_day = largest;
+    longest_day.hours = GIQAPSUN_DAY_MOST;
 }
 
-/* All calls on that day. */
+/* All calls on those days. */
 static void *measure(void *nothing)
 {
-    fill_largest();
+    fill_days();
     for (size_t i = 0; i < CALLS; i++)
         calls[i].used = used(calls[i].call);
     return nothing;

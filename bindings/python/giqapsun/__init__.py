@@ -1,5 +1,6 @@
 """The day of one thermal power unit: case files are read and written, a list of hourly outputs is checked
-against the rules of the day, the list that earns most is found, and the better of two lists is told.
+against the rules of the day, the list that earns most is found, by the case's own hour orders or by those of the
+year's calendar, and the better of two lists is told.
 
 Outputs are whole megawatts, prices and costs mills (thousandths of a dollar), profits half-mills (2,000 to
 the dollar, exact). A price may be below 0: it is from PRICE_LEAST to PRICE_MOST. Hours are counted from 1;
@@ -12,6 +13,11 @@ hour 0 is the one before the day.
     plan = giqapsun.best(case)
     print(plan.profit / 2000, "dollars")
     print(plan.outputs)
+
+A calendar is two lists of windows of the year, on-line and off-line, each with two numbers for a window: its first
+hour, counted from 0 at the year's first hour, and its length in hours.
+
+    by_calendar = giqapsun.best_by_calendar(case, on=[], off=[2406, 6], first=2400, hours=24)
 
 The module loads libgiqapsun.so at its first call: the one that GIQAPSUN_LIBRARY names, or the one inside
 this package, or the one that bindings/build.sh makes in target/bindings of the repository.
@@ -29,20 +35,25 @@ from dataclasses import dataclass, field, fields
 from functools import lru_cache
 from typing import SupportsIndex, TypeVar
 
-from ._boundary import FILE_MOST, HOURS, PRICE_LEAST, PRICE_MOST, STAGES, WORK, LibraryError, calls, library_file
+from ._boundary import DAY_LEAST, DAY_MOST, FILE_MOST, HOURS, PRICE_LEAST, PRICE_MOST, STAGES, WORK, YEAR_HOURS
 from ._boundary import Case as _Case
+from ._boundary import LibraryError, calls, library_file
 from ._texts import REFUSALS, RULES
 
-__version__ = "2.0.0"
+__version__ = "2.1.0"
 
 __all__ = [
     "Case", "Passes", "Breaks", "Plan", "First", "Second", "Neither", "Refusal", "LibraryError",
-    "read", "write", "check", "best", "compare", "better", "library_file",
-    "FREE", "ON", "OFF", "STAGES", "HOURS", "PRICE_LEAST", "PRICE_MOST", "REFUSALS", "RULES",
+    "read", "write", "check", "best", "best_by_calendar", "compare", "better", "library_file",
+    "FREE", "ON", "OFF", "STAGES", "HOURS", "PRICE_LEAST", "PRICE_MOST", "YEAR_HOURS", "DAY_HOURS",
+    "REFUSALS", "RULES",
 ]
 
 # orders of an hour
 FREE, ON, OFF = 0, 1, 2
+
+# how many hours a day of the calendar can have
+DAY_HOURS = tuple(range(DAY_LEAST, DAY_MOST + 1))
 
 
 class Refusal(Exception):
@@ -153,8 +164,8 @@ def write(case: Case) -> bytes:
 
 def check(case: Case, outputs: Iterable[SupportsIndex]) -> Passes | Breaks:
     """Passes or Breaks, for a list of outputs; refusals 2 to 8, 13 and 9."""
-    listed = _entries("outputs", outputs, ctypes.c_uint16)
-    verdict = calls().check(_record(case), _lent(ctypes.c_uint16, listed), len(listed))
+    listed = _listed("outputs", outputs)
+    verdict = calls().check(_record(case), *listed)
     _test(verdict.number)
     return Breaks(verdict.hour, verdict.rule) if verdict.rule else Passes(verdict.profit)
 
@@ -164,10 +175,22 @@ def best(case: Case) -> Plan:
 
     Among equal earners it is the list that is lower at the first hour where two differ.
     """
-    work, outputs = (ctypes.c_int64 * WORK)(), (ctypes.c_uint16 * HOURS)()
-    plan = calls().best(_record(case), work, WORK, outputs, HOURS)
-    _test(plan.number)
-    return Plan(outputs[: len(case.prices)], plan.profit)
+    return _planned(calls().best, case)
+
+
+def best_by_calendar(
+    case: Case, on: Iterable[SupportsIndex], off: Iterable[SupportsIndex], first: SupportsIndex, hours: SupportsIndex
+) -> Plan:
+    """The list of `best` for the case with the hour orders of a calendar; refusals 14, 15, 2 to 8, 13 and 11.
+
+    `on` and `off` are the on-line and the off-line windows of the year, sorted, two numbers for each: its first hour,
+    counted from 0 at the year's first hour, and its length. A window holds its first hour and not the hour after its
+    last; windows may touch. The day has `hours` hours from hour `first` of the year. Its hours in a window of `on` are
+    ordered ON, those in one of `off` OFF, all others FREE. These orders replace the case's own, which are still tested.
+    """
+    windows = *_listed("on", on), *_listed("off", off)
+    day = _number("first", first, ctypes.c_uint16), _number("hours", hours, ctypes.c_uint16)
+    return _planned(calls().best_by_calendar, case, *windows, *day)
 
 
 def compare(
@@ -178,8 +201,7 @@ def compare(
     A list that passes beats one that does not; then the higher profit wins; then the lower output at the first
     hour where they differ. Identical lists give First.
     """
-    ones, others = _outputs("first", first), _outputs("second", second)
-    lent = _lent(ctypes.c_uint16, ones), len(ones), _lent(ctypes.c_uint16, others), len(others)
+    lent = *_sliceable("first", first), *_sliceable("second", second)
     choice = calls().better(_record(case), *lent)
     _test(choice.number)
     if choice.which == 0:
@@ -237,13 +259,19 @@ def _entries(name, values, kind):
     return [_number(name, value, kind) for value in listed]
 
 
-def _outputs(name, values):
-    """The outputs of a list that has parts and can be handed back as it was."""
+def _listed(name, values):
+    """A list of 16-bit numbers to lend, and its length."""
+    entries = _entries(name, values, ctypes.c_uint16)
+    return _lent(ctypes.c_uint16, entries), len(entries)
+
+
+def _sliceable(name, values):
+    """The same of a list that has parts and can be handed back as it was."""
     try:
         values[:0]
     except (TypeError, LookupError):
         raise ValueError(f"{name}: {values!r} is not a list of whole numbers") from None
-    return _entries(name, values, ctypes.c_uint16)
+    return _listed(name, values)
 
 
 def _number(name, value, kind):
@@ -261,6 +289,14 @@ def _number(name, value, kind):
 def _lent(kind, entries):
     """An array of the entries; never of none, so that its pointer is always a valid one."""
     return (kind * max(1, len(entries)))(*entries)
+
+
+def _planned(call, case, *calendar):
+    """The plan that a call finds, with numbers to work in and room for the outputs lent to it."""
+    work, outputs = (ctypes.c_int64 * WORK)(), (ctypes.c_uint16 * HOURS)()
+    plan = call(_record(case), *calendar, work, WORK, outputs, HOURS)
+    _test(plan.number)
+    return Plan(outputs[: len(case.prices)], plan.profit)
 
 
 def _test(number):

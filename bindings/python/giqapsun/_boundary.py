@@ -11,6 +11,9 @@ WORK = 8192
 FILE_MOST = 20 + 32 + 2 * STAGES * 2 + 5 * HOURS + 2
 PRICE_LEAST = -10_000_000
 PRICE_MOST = 10_000_000
+YEAR_HOURS = 8784
+DAY_LEAST = 23
+DAY_MOST = 25
 
 # the number of the record's layout, which ends the name of each call
 LAYOUT = 2
@@ -83,18 +86,20 @@ class Choice(ctypes.Structure):
     _fields_ = [("number", ctypes.c_uint32), ("which", ctypes.c_uint32), ("profit", ctypes.c_int64)]
 
 
-_BYTES = ctypes.POINTER(ctypes.c_uint8)
-_OUTPUTS = ctypes.POINTER(ctypes.c_uint16)
-_NUMBERS = ctypes.POINTER(ctypes.c_int64)
+# lent slices, pointer and length: bytes, outputs or windows, numbers to work in
+_BYTES = [ctypes.POINTER(ctypes.c_uint8), ctypes.c_size_t]
+_LIST = [ctypes.POINTER(ctypes.c_uint16), ctypes.c_size_t]
+_NUMBERS = [ctypes.POINTER(ctypes.c_int64), ctypes.c_size_t]
 
 # the calls by their names without the layout's number: what each answers and takes; one that a later version adds
 # stands last
 _CALLS = {
-    "read": (Reading, [_BYTES, ctypes.c_size_t]),
-    "write": (Written, [Case, _BYTES, ctypes.c_size_t]),
-    "check": (Verdict, [Case, _OUTPUTS, ctypes.c_size_t]),
-    "best": (Plan, [Case, _NUMBERS, ctypes.c_size_t, _OUTPUTS, ctypes.c_size_t]),
-    "better": (Choice, [Case, _OUTPUTS, ctypes.c_size_t, _OUTPUTS, ctypes.c_size_t]),
+    "read": (Reading, [*_BYTES]),
+    "write": (Written, [Case, *_BYTES]),
+    "check": (Verdict, [Case, *_LIST]),
+    "best": (Plan, [Case, *_NUMBERS, *_LIST]),
+    "better": (Choice, [Case, *_LIST, *_LIST]),
+    "best_by_calendar": (Plan, [Case, *_LIST, *_LIST, ctypes.c_uint16, ctypes.c_uint16, *_NUMBERS, *_LIST]),
 }
 
 
@@ -120,7 +125,7 @@ def calls():
 
 
 class _Calls:
-    """read, write, check, best and better."""
+    """read, write, check, best, better and best_by_calendar."""
 
     def __init__(self, file, library):
         for name, (answer, arguments) in _CALLS.items():

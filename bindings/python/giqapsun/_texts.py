@@ -2,8 +2,11 @@
 
 # the conditions of the refusal list, in the order in which they are tested
 REFUSALS: dict[int, str] = {
+    14: "a list of windows not of whole pairs; a window empty, unsorted or overlapping its neighbour; "
+        "a day not of 23 to 25 hours; or first hour plus length of a window or of the day above 8,784",
+    15: "an hour of the day in both lists of windows",
     1: "file under 16 bytes, or pairs not as laid down",
-    2: "a section length, or a count in a record, not as laid down",
+    2: "a section length, or a count in a record, not as laid down; by calendar, T not the day's number of hours",
     12: "form number not 2",
     3: "minimum output 0 or above capacity, or capacity above 400",
     4: "RU or RD outside 1 to 400, or a minimum time outside 1 to 8",

@@ -23,6 +23,15 @@ pub const PRICE_LEAST: i32 = -10_000_000;
 /// The highest price, in mills per MWh.
 pub const PRICE_MOST: i32 = 10_000_000;
 
+/// Hours of the longest year.
+pub const YEAR_HOURS: u16 = 8784;
+
+/// Hours of the shortest day of a calendar.
+pub const DAY_LEAST: u16 = 23;
+
+/// Hours of the longest day of a calendar.
+pub const DAY_MOST: u16 = 25;
+
 /// Order of an hour: the unit may be on-line or off-line.
 pub const FREE: u8 = 0;
 
@@ -161,7 +170,7 @@ pub struct Choice {
 }
 
 // Every pointer is valid for its length, aligned and not null; lent slices do not overlap, but the two lists
-// of giqapsun_better may.
+// of giqapsun_better, and the two of windows of giqapsun_best_by_calendar, may overlap each other.
 extern "C" {
     /// Reads the `n` bytes of a file, of form 2 or of the old form; changes no lent memory.
     #[link_name = "giqapsun_read_2"]
@@ -183,4 +192,22 @@ extern "C" {
     /// Tells the better of a list of `n` outputs and one of `m`; changes no lent memory.
     #[link_name = "giqapsun_better_2"]
     pub fn giqapsun_better(c: Case, first: *const u16, n: usize, second: *const u16, m: usize) -> Choice;
+
+    /// Finds the best list with the hour orders of a calendar: `a` numbers of on-line windows and `b` of
+    /// off-line ones, two for each, and the day's first hour and number of hours. `work` and `outputs` are as
+    /// for [`giqapsun_best`]; the windows are only read.
+    #[link_name = "giqapsun_best_by_calendar_2"]
+    pub fn giqapsun_best_by_calendar(
+        c: Case,
+        on: *const u16,
+        a: usize,
+        off: *const u16,
+        b: usize,
+        first: u16,
+        hours: u16,
+        work: *mut i64,
+        n: usize,
+        outputs: *mut u16,
+        m: usize,
+    ) -> Plan;
 }

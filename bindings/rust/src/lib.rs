@@ -1,6 +1,7 @@
 //! The day of one thermal power unit: case files are read and written, a list of hourly outputs is checked
-//! against the rules of the day, the list that earns most is found, and the better of two lists is told. The
-//! library behind it is proved; this crate lends it memory and turns its answers into Rust's.
+//! against the rules of the day, the list that earns most is found, by the case's own hour orders or by those
+//! of a calendar, and the better of two lists is told. The library behind it is proved; this crate lends it
+//! memory and turns its answers into Rust's.
 //!
 //! Outputs are whole megawatts, prices and costs mills (thousandths of a dollar), profits half-mills (2,000
 //! to the dollar, exact). A price may be below 0. Hours are counted from 1; hour 0 is the one before the day.
@@ -58,7 +59,8 @@ pub mod boundary;
 mod refusal;
 mod rule;
 
-pub use boundary::{Case, FILE_MOST, FREE, HOURS, OFF, ON, PRICE_LEAST, PRICE_MOST, STAGES, WORK};
+pub use boundary::{Case, DAY_LEAST, DAY_MOST, FILE_MOST, FREE, HOURS, OFF, ON, PRICE_LEAST, PRICE_MOST};
+pub use boundary::{STAGES, WORK, YEAR_HOURS};
 pub use refusal::Refusal;
 pub use rule::{rule_text, RULES};
 
@@ -154,14 +156,75 @@ pub fn check(case: &Case, list: &[u16]) -> Result<Verdict, Refusal> {
 ///
 /// Refusals 2 to 8 and 13 of the case, and 11 where no list keeps every rule.
 pub fn best(case: &Case) -> Result<Plan, Refusal> {
-    let mut work = vec![0; WORK];
-    let mut outputs = vec![0; HOURS];
-    // SAFETY: pointers and lengths are those of two slices, lent for the call alone.
-    let plan = unsafe {
-        boundary::giqapsun_best(*case, work.as_mut_ptr(), work.len(), outputs.as_mut_ptr(), outputs.len())
-    };
-    outputs.truncate(case.hours);
-    accepted(plan.number, Plan { outputs, profit: plan.profit })
+    planned(case, |work, outputs| {
+        // SAFETY: pointers and lengths are those of two slices, lent for the call alone.
+        unsafe {
+            boundary::giqapsun_best(*case, work.as_mut_ptr(), work.len(), outputs.as_mut_ptr(), outputs.len())
+        }
+    })
+}
+
+/// Finds the list of [`best`] for the case with the hour orders of a calendar, which replace its own; those
+/// are still tested.
+///
+/// `on` and `off` are the on-line and the off-line windows of the year, sorted by first hour: two numbers for
+/// each, its first hour, counted from 0 at the year's first hour, and its length in hours. A window holds its
+/// first hour and not the hour after its last; windows may touch. The day begins at hour `first` of the year
+/// and has `hours` hours, which T must be. Those in a window of `on` are on-line, those in one of `off`
+/// off-line, all others free.
+///
+/// ```
+/// use giqapsun::{best, best_by_calendar, read, Plan, Refusal};
+///
+/// // Case 7's unit, and 24 hours in which each MW that it gives earns.
+/// let mut case = read(include_bytes!("../../../cases/case7.case"))?;
+/// case.hours = 24;
+/// case.prices[..24].fill(20);
+///
+/// // The 101st day of the year; an outage from its hour 9 to its hour 12, hours 2,408 to 2,411 of the year.
+/// let off = [2408, 4];
+/// let plan = best_by_calendar(&case, &[], &off, 2400, 24)?;
+/// let outputs = [4, 4, 4, 4, 4, 3, 2, 1, 0, 0, 0, 0, 1, 2, 3, 4, 4, 4, 4, 4, 4, 4, 4, 4];
+/// assert_eq!(plan, Plan { outputs: outputs.to_vec(), profit: 1300 });
+///
+/// // On the day after, no hour is in a window.
+/// assert_eq!(best_by_calendar(&case, &[], &off, 2424, 24), best(&case));
+/// // On the day itself the unit cannot be ordered on-line besides, and T is the number of its hours.
+/// assert_eq!(best_by_calendar(&case, &[2411, 2], &off, 2400, 24), Err(Refusal::Conflict));
+/// assert_eq!(best_by_calendar(&case, &[], &off, 2400, 25), Err(Refusal::Counts));
+/// # Ok::<(), Refusal>(())
+/// ```
+///
+/// # Errors
+///
+/// Refusal 14 of the windows and of the day, and 15 where an hour of the day is in both lists; then 2 to 8 and
+/// 13 of the case, and 11 where no list keeps every rule. 2 is given where T is not `hours` too.
+pub fn best_by_calendar(
+    case: &Case,
+    on: &[u16],
+    off: &[u16],
+    first: u16,
+    hours: u16,
+) -> Result<Plan, Refusal> {
+    planned(case, |work, outputs| {
+        // SAFETY: pointers and lengths are those of four slices, of which the windows are only read and the
+        // others lent for the call alone.
+        unsafe {
+            boundary::giqapsun_best_by_calendar(
+                *case,
+                on.as_ptr(),
+                on.len(),
+                off.as_ptr(),
+                off.len(),
+                first,
+                hours,
+                work.as_mut_ptr(),
+                work.len(),
+                outputs.as_mut_ptr(),
+                outputs.len(),
+            )
+        }
+    })
 }
 
 /// Tells which of two lists is the better: one that passes beats one that does not; then the higher profit
@@ -206,6 +269,18 @@ pub fn better<'a>(case: &Case, first: &'a [u16], second: &'a [u16]) -> &'a [u16]
         Ok(Comparison::Second { .. }) => second,
         Ok(Comparison::Neither) | Err(_) => &first[..0],
     }
+}
+
+/// The plan of a search, which is lent numbers to work in and room for the outputs.
+fn planned(
+    case: &Case,
+    search: impl FnOnce(&mut [i64], &mut [u16]) -> boundary::Plan,
+) -> Result<Plan, Refusal> {
+    let mut work = vec![0; WORK];
+    let mut outputs = vec![0; HOURS];
+    let plan = search(&mut work, &mut outputs);
+    outputs.truncate(case.hours);
+    accepted(plan.number, Plan { outputs, profit: plan.profit })
 }
 
 /// The answer beside number 0, or the refusal.

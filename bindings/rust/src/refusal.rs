@@ -33,13 +33,19 @@ pub enum Refusal {
     Form,
     /// 13: prices.
     Prices,
+    /// 14: the windows of a calendar, and its day.
+    Calendar,
+    /// 15: an hour ordered on-line and off-line.
+    Conflict,
     /// A number that this crate does not know.
     Unknown(u32),
 }
 
 impl Refusal {
     /// Every refusal, in the order in which their conditions are tested.
-    pub const ALL: [Refusal; 13] = [
+    pub const ALL: [Refusal; 15] = [
+        Refusal::Calendar,
+        Refusal::Conflict,
         Refusal::Pairs,
         Refusal::Counts,
         Refusal::Form,
@@ -80,6 +86,8 @@ impl Refusal {
             Refusal::NoSchedule => 11,
             Refusal::Form => 12,
             Refusal::Prices => 13,
+            Refusal::Calendar => 14,
+            Refusal::Conflict => 15,
             Refusal::Unknown(number) => number,
         }
     }
@@ -88,7 +96,10 @@ impl Refusal {
     pub fn text(self) -> &'static str {
         match self {
             Refusal::Pairs => "file under 16 bytes, or pairs not as laid down",
-            Refusal::Counts => "a section length, or a count in a record, not as laid down",
+            Refusal::Counts => {
+                "a section length, or a count in a record, not as laid down; \
+                 by calendar, T not the day's number of hours"
+            }
             Refusal::Capacity => "minimum output 0 or above capacity, or capacity above 400",
             Refusal::RampsAndTimes => "RU or RD outside 1 to 400, or a minimum time outside 1 to 8",
             Refusal::Costs => "F not from 0 to 1,000,000, or A, B or C not from 0 to 100,000,000",
@@ -109,6 +120,11 @@ impl Refusal {
             Refusal::NoSchedule => "best list asked for, and no list keeps every rule",
             Refusal::Form => "form number not 2",
             Refusal::Prices => "a price outside -10,000,000 to 10,000,000",
+            Refusal::Calendar => {
+                "a list of windows not of whole pairs; a window empty, unsorted or overlapping its neighbour; \
+                 a day not of 23 to 25 hours; or first hour plus length of a window or of the day above 8,784"
+            }
+            Refusal::Conflict => "an hour of the day in both lists of windows",
             Refusal::Unknown(_) => "a number that is not in the refusal list",
         }
     }

@@ -1,9 +1,10 @@
 //! Every refusal, and what each call leaves in lent memory.
 
-use giqapsun::boundary::{giqapsun_best, giqapsun_better, giqapsun_read, giqapsun_write, Choice};
+use giqapsun::boundary::{giqapsun_best, giqapsun_best_by_calendar, giqapsun_better, giqapsun_read};
+use giqapsun::boundary::{giqapsun_write, Choice, Plan};
 use giqapsun::{
-    best, better, check, compare, read, write, Case, Refusal, FILE_MOST, HOURS, ON, PRICE_LEAST, PRICE_MOST,
-    WORK,
+    best, best_by_calendar, better, check, compare, read, write, Case, Refusal, FILE_MOST, HOURS, ON,
+    PRICE_LEAST, PRICE_MOST, WORK,
 };
 
 const CASE_7: &[u8] = include_bytes!("../../../cases/case7.case");
@@ -41,6 +42,14 @@ fn refused_cases() -> Vec<(u32, Case)> {
         (8, changed(|case| (case.orders[2], case.prices[0]) = (3, PRICE_MOST + 1))),
         (5, changed(|case| (case.variable, case.prices[0]) = (-1, PRICE_MOST + 1))),
     ]
+}
+
+/// The case with 24 hours in place of its three; one of another number of hours as it is.
+fn of_24_hours(mut case: Case) -> Case {
+    if case.hours == 3 {
+        case.hours = 24;
+    }
+    case
 }
 
 /// A file with other bytes at an offset.
@@ -138,6 +147,7 @@ fn of_a_record() {
         assert_eq!(write(&case), Err(refusal));
         assert_eq!(check(&case, &[2, 1, 0]), Err(refusal));
         assert_eq!(best(&case), Err(refusal));
+        assert_eq!(best_by_calendar(&of_24_hours(case), &[], &[], 0, 24), Err(refusal));
         // lists that pass, and lists of wrong lengths: the case is tested first
         for list in [&[2, 1, 0][..], &[2, 1], &[]] {
             refused_pair(&case, list, &[2, 1, 0], refusal);
@@ -197,18 +207,81 @@ fn writing_keeps_to_its_bytes() {
     }
 }
 
-/// Lends so many numbers and outputs, all filled with noise, and tests what is left in them.
-fn lend(case: Case, numbers: usize, outputs: usize, number: u32, profit: i64, list: &[u16]) {
+/// Lends a search so many numbers and outputs, all filled with noise, and tests what is left in them.
+fn lend_to(
+    search: impl FnOnce(&mut [i64], &mut [u16]) -> Plan,
+    (numbers, outputs): (usize, usize),
+    (number, profit): (u32, i64),
+    list: &[u16],
+) {
     let mut work = vec![-7i64; WORK + 3];
     let mut room = [60_000u16; HOURS + 2];
-    // SAFETY: at most the lengths of the two slices are lent.
-    let plan = unsafe { giqapsun_best(case, work.as_mut_ptr(), numbers, room.as_mut_ptr(), outputs) };
+    let plan = search(&mut work[..numbers], &mut room[..outputs]);
     assert_eq!((plan.number, plan.profit), (number, profit));
     let zeroed = if number == 0 || number == 11 { WORK } else { 0 };
     assert!(work[..zeroed].iter().all(|&number| number == 0));
     assert!(work[zeroed..].iter().all(|&number| number == -7));
     assert_eq!(&room[..list.len()], list);
     assert!(room[list.len()..].iter().all(|&output| output == 60_000));
+}
+
+/// The same for the best list of a case.
+fn lend(case: Case, numbers: usize, outputs: usize, number: u32, profit: i64, list: &[u16]) {
+    let search = |work: &mut [i64], room: &mut [u16]| {
+        // SAFETY: pointers and lengths of two slices.
+        unsafe { giqapsun_best(case, work.as_mut_ptr(), work.len(), room.as_mut_ptr(), room.len()) }
+    };
+    lend_to(search, (numbers, outputs), (number, profit), list);
+}
+
+/// The same for the best list by a calendar, on the 24 hours from hour 2,400 of the year.
+fn lend_by_calendar(
+    (case, on, off): (Case, &[u16], &[u16]),
+    lent: (usize, usize),
+    answer: (u32, i64),
+    list: &[u16],
+) {
+    let search = |work: &mut [i64], room: &mut [u16]| {
+        // SAFETY: pointers and lengths of four slices.
+        unsafe {
+            giqapsun_best_by_calendar(
+                case,
+                on.as_ptr(),
+                on.len(),
+                off.as_ptr(),
+                off.len(),
+                2400,
+                24,
+                work.as_mut_ptr(),
+                work.len(),
+                room.as_mut_ptr(),
+                room.len(),
+            )
+        }
+    };
+    lend_to(search, lent, answer, list);
+}
+
+#[test]
+fn searching_by_calendar_keeps_to_its_memory() {
+    let case = of_24_hours(changed(|_| {}));
+    let off = [2403, 21];
+    // at a price of 5 in three hours and of 0 after them the unit stops as in case 7, and cannot sooner
+    let (planned, mut list) = ((case, &[][..], &off[..]), [0; 24]);
+    list[..3].copy_from_slice(&[2, 1, 0]);
+    lend_by_calendar(planned, (WORK, 24), (0, -53), &list);
+    lend_by_calendar(planned, (WORK + 3, HOURS + 2), (0, -53), &list);
+    lend_by_calendar(planned, (WORK - 1, 24), (10, 0), &[]);
+    lend_by_calendar(planned, (WORK, 23), (10, 0), &[]);
+    lend_by_calendar(planned, (0, 0), (10, 0), &[]);
+    lend_by_calendar((case, &[], &[2400, 1]), (WORK, 24), (11, 0), &[]);
+    lend_by_calendar((case, &[], &[2400, 1]), (WORK, 23), (10, 0), &[]);
+    lend_by_calendar((case, &[2400], &[]), (WORK, HOURS), (14, 0), &[]);
+    lend_by_calendar((case, &off, &off), (WORK, HOURS), (15, 0), &[]);
+    for (number, refused) in refused_cases() {
+        lend_by_calendar((of_24_hours(refused), &[], &off), (WORK, HOURS), (number, 0), &[]);
+        lend_by_calendar((refused, &[2400, 2, 2401], &off), (0, 0), (14, 0), &[]);
+    }
 }
 
 #[test]
@@ -234,9 +307,9 @@ fn searching_keeps_to_its_memory() {
 #[test]
 fn numbers() {
     assert_eq!(Refusal::from_number(0), None);
-    assert_eq!(Refusal::from_number(14), Some(Refusal::Unknown(14)));
-    assert_eq!(Refusal::Unknown(14).number(), 14);
-    assert_eq!(Refusal::ALL.map(Refusal::number), [1, 2, 12, 3, 4, 5, 6, 7, 8, 13, 9, 10, 11]);
+    assert_eq!(Refusal::from_number(16), Some(Refusal::Unknown(16)));
+    assert_eq!(Refusal::Unknown(16).number(), 16);
+    assert_eq!(Refusal::ALL.map(Refusal::number), [14, 15, 1, 2, 12, 3, 4, 5, 6, 7, 8, 13, 9, 10, 11]);
     for refusal in Refusal::ALL {
         assert_eq!(Refusal::from_number(refusal.number()), Some(refusal));
     }
