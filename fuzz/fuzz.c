@@ -4,13 +4,13 @@
  *   check;
  *   as a record, byte for byte, with counts and numbers of any size;
  *   as a record brought within the limits, so that every input is also searched, and with two fields at a limit or
- *   past it.
+ *   past it; both are searched by a calendar of the input's own windows too.
  * An accepted case at prices that the old form can hold is read from a file of that form too.
  * Of each accepted case pairs of lists are compared too: its best list, the best one at the prices in reverse, near
  * misses and the input's own numbers, at its own prices and at prices that leave no margin, where lists earn the same.
  * Every answer is compared with that of the independent scheduler of tests/oracle; its search is left out on
  * large days, where it takes too long. Whatever the answers have to agree in among themselves is tested too.
- * Any difference aborts. The last lines say how often each outcome of a file and of a pair came up.
+ * Any difference aborts. The last lines say how often each outcome of a file, of a pair and of a calendar came up.
  */
 #include "giqapsun.h"
 #include <stdio.h>
@@ -35,6 +35,10 @@ struct giqapsun_verdict oracle_check(struct giqapsun_case c, const uint16_t *lis
 struct giqapsun_plan oracle_best(struct giqapsun_case c, size_t n, uint16_t *outputs, size_t m);
 struct giqapsun_choice oracle_better(struct giqapsun_case c, const uint16_t *first, size_t n, const uint16_t *second,
                                      size_t m);
+
+/* It puts the orders of a calendar in place of the case's own: 0, or the number that refuses calendar or case. */
+uint32_t oracle_fill(struct giqapsun_case *c, const uint16_t *on, size_t a, const uint16_t *off, size_t b,
+                     uint16_t first, uint16_t hours);
 
 /* Hours times outputs up to which the independent search is asked. */
 #define SEARCHED 2000
@@ -81,10 +85,11 @@ static int64_t work[MARGIN + GIQAPSUN_WORK + MARGIN], work_before[MARGIN + GIQAP
 static uint16_t outputs[MARGIN + GIQAPSUN_HOURS + MARGIN], outputs_before[MARGIN + GIQAPSUN_HOURS + MARGIN];
 static uint8_t file[MARGIN + GIQAPSUN_FILE_MOST + MARGIN], file_before[MARGIN + GIQAPSUN_FILE_MOST + MARGIN];
 
-/* Files and pairs by their outcome. */
+/* Files, pairs and calendars by their outcome. */
 static struct {
     unsigned long old, form_2, files_refused, by_12, by_13;
     unsigned long refused, neither, alone, profit, tie, identical;
+    unsigned long found, by_14, by_15, by_2, by_11, by_others;
 } met;
 
 static void print_met(void)
@@ -93,6 +98,8 @@ static void print_met(void)
     fprintf(stderr, "by 12 %lu, by 13 %lu\n", met.by_12, met.by_13);
     fprintf(stderr, "pairs: refused %lu, neither passes %lu, one passes %lu, ", met.refused, met.neither, met.alone);
     fprintf(stderr, "higher profit %lu, tie %lu, identical %lu\n", met.profit, met.tie, met.identical);
+    fprintf(stderr, "calendars: found %lu, by 14 %lu, by 15 %lu, ", met.found, met.by_14, met.by_15);
+    fprintf(stderr, "by 2 %lu, by 11 %lu, by others %lu\n", met.by_2, met.by_11, met.by_others);
 }
 
 /* giqapsun_read, compared. */
@@ -128,8 +135,8 @@ static struct giqapsun_written written_in(struct giqapsun_case c, size_t n)
     return w;
 }
 
-/* giqapsun_best with so many numbers and outputs, with the memory filled and compared. */
-static struct giqapsun_plan best_in(struct giqapsun_case c, size_t n, size_t m)
+/* Fills the memory that a search is lent. */
+static void lend(void)
 {
     for (size_t i = 0; i < sizeof work / sizeof *work; i++)
         work[i] = (int64_t)noise();
@@ -137,7 +144,11 @@ static struct giqapsun_plan best_in(struct giqapsun_case c, size_t n, size_t m)
         outputs[i] = (uint16_t)noise();
     memcpy(work_before, work, sizeof work);
     memcpy(outputs_before, outputs, sizeof outputs);
-    struct giqapsun_plan plan = giqapsun_best(c, work + MARGIN, n, outputs + MARGIN, m);
+}
+
+/* The memory that a search with m outputs leaves, compared with what was lent. */
+static void left_as_lent(struct giqapsun_case c, struct giqapsun_plan plan, size_t m)
+{
     if (plan.number == 0 || plan.number == 11)
         memset(work_before + MARGIN, 0, GIQAPSUN_WORK * sizeof *work);
     HOLDS(memcmp(work, work_before, sizeof work) == 0);
@@ -146,6 +157,14 @@ static struct giqapsun_plan best_in(struct giqapsun_case c, size_t n, size_t m)
     memcpy(outputs_before + MARGIN, outputs + MARGIN, filled * sizeof *outputs);
     HOLDS(memcmp(outputs, outputs_before, sizeof outputs) == 0);
     HOLDS(plan.number == 0 || plan.profit == 0);
+}
+
+/* giqapsun_best with so many numbers and outputs, with the memory filled and compared. */
+static struct giqapsun_plan best_in(struct giqapsun_case c, size_t n, size_t m)
+{
+    lend();
+    struct giqapsun_plan plan = giqapsun_best(c, work + MARGIN, n, outputs + MARGIN, m);
+    left_as_lent(c, plan, m);
     return plan;
 }
 
@@ -159,6 +178,57 @@ static struct giqapsun_plan best_as_expected(struct giqapsun_case c, size_t n, s
         HOLDS(plan.number == expected.number && plan.profit == expected.profit);
         HOLDS(plan.number != 0 || memcmp(outputs + MARGIN, list, c.hours * sizeof *list) == 0);
     }
+    return plan;
+}
+
+/* Most numbers of a list of windows. */
+#define NUMBERS 32
+
+/* Two lists of windows and a day. */
+struct calendar {
+    uint16_t on[NUMBERS], off[NUMBERS];
+    size_t a, b;
+    uint16_t first, hours;
+};
+
+/* The first n numbers of a list in memory of their own, to be freed. */
+static uint16_t *copied(const uint16_t *list, size_t n)
+{
+    uint16_t *copy = malloc(n == 0 ? 1 : n * sizeof *list);
+    HOLDS(copy != NULL);
+    memcpy(copy, list, n * sizeof *list);
+    return copy;
+}
+
+/* giqapsun_best_by_calendar, with the memory filled and compared, and the windows compared. */
+static struct giqapsun_plan by_calendar_in(struct giqapsun_case c, const struct calendar *by, size_t n, size_t m)
+{
+    uint16_t *on = copied(by->on, by->a), *off = copied(by->off, by->b);
+    lend();
+    struct giqapsun_plan plan = giqapsun_best_by_calendar(c, on, by->a, off, by->b, by->first, by->hours,
+                                                          work + MARGIN, n, outputs + MARGIN, m);
+    left_as_lent(c, plan, m);
+    HOLDS(memcmp(on, by->on, by->a * sizeof *on) == 0 && memcmp(off, by->off, by->b * sizeof *off) == 0);
+    free(on);
+    free(off);
+    return plan;
+}
+
+/* by_calendar_in, compared: refused as the independent scheduler does, or the best list of the day that it fills. */
+static struct giqapsun_plan by_calendar_as_expected(struct giqapsun_case c, const struct calendar *by, size_t n,
+                                                    size_t m)
+{
+    struct giqapsun_plan plan = by_calendar_in(c, by, n, m);
+    uint32_t number = oracle_fill(&c, by->on, by->a, by->off, by->b, by->first, by->hours);
+    if (number != 0) {
+        HOLDS(plan.number == number);
+        return plan;
+    }
+    uint16_t list[GIQAPSUN_HOURS];
+    memcpy(list, outputs + MARGIN, sizeof list);
+    struct giqapsun_plan expected = best_as_expected(c, n, m);
+    HOLDS(plan.number == expected.number && plan.profit == expected.profit);
+    HOLDS(plan.number != 0 || memcmp(list, outputs + MARGIN, c.hours * sizeof *list) == 0);
     return plan;
 }
 
@@ -518,6 +588,108 @@ static void bring_to_limit(struct giqapsun_case *c, struct bytes *bytes)
     }
 }
 
+/* Puts a window at the end of a list, if there is room. */
+static void put_window(uint16_t *list, size_t *n, unsigned first, unsigned length)
+{
+    if (*n + 2 > NUMBERS)
+        return;
+    list[(*n)++] = (uint16_t)first;
+    list[(*n)++] = (uint16_t)length;
+}
+
+/* A calendar that is mostly accepted: windows one after the other from some hours before the day on, each in one of the
+   lists or, now and then, in both. */
+static struct calendar drawn_calendar(struct bytes *bytes)
+{
+    struct calendar by;
+    memset(&by, 0, sizeof by);
+    by.hours = within(bytes, GIQAPSUN_DAY_LEAST, GIQAPSUN_DAY_MOST);
+    by.first = within(bytes, 0, GIQAPSUN_YEAR_HOURS - by.hours);
+    unsigned before = take8(bytes) % 32, hour = by.first > before ? by.first - before : 0;
+    for (unsigned count = take8(bytes) % 8; count > 0; count--) {
+        unsigned first = hour + take8(bytes) % 12, length = 1u + take8(bytes) % 12, which = take8(bytes) % 16;
+        hour = first + length;
+        if (hour > GIQAPSUN_YEAR_HOURS)
+            break;
+        if (which < 8 || which == 15)
+            put_window(by.on, &by.a, first, length);
+        if (which >= 8)
+            put_window(by.off, &by.b, first, length);
+    }
+    return by;
+}
+
+/* Brings a number of a calendar to a limit or past it: of a list, how many it has, or of the day. */
+static void bring_calendar_to_limit(struct calendar *by, struct bytes *bytes)
+{
+    static const uint16_t numbers[6] = {0, 1, GIQAPSUN_YEAR_HOURS - 1, GIQAPSUN_YEAR_HOURS, 65512, UINT16_MAX};
+    int on = take8(bytes) % 2;
+    uint16_t *list = on ? by->on : by->off;
+    size_t *n = on ? &by->a : &by->b, place = *n == 0 ? 0 : take8(bytes) % *n;
+    switch (take8(bytes) % 6) {
+    case 0:
+        list[place] = numbers[take8(bytes) % 6];
+        break;
+    case 1:
+        list[place] = (uint16_t)(list[place] + within(bytes, 0, 2) - 1);
+        break;
+    case 2:
+        list[place] = take16(bytes);
+        break;
+    case 3:
+        *n += *n < NUMBERS ? 1 : 0;
+        break;
+    case 4:
+        by->hours = within(bytes, GIQAPSUN_DAY_LEAST - 1, GIQAPSUN_DAY_MOST + 1);
+        break;
+    default:
+        by->first = (uint16_t)(GIQAPSUN_YEAR_HOURS - by->hours + within(bytes, 0, 1));
+    }
+}
+
+/* The case with another number of hours, at the prices and orders that it has. */
+static struct giqapsun_case with_hours(struct giqapsun_case c, size_t hours)
+{
+    for (size_t k = c.hours; k < hours; k++) {
+        c.prices[k] = c.prices[k % c.hours];
+        c.orders[k] = c.orders[k % c.hours];
+    }
+    c.hours = hours;
+    return c;
+}
+
+/* A case by a calendar, in enough memory and in memory that is short: 10 in place of an answer that comes after it. */
+static void try_calendar(struct giqapsun_case c, const struct calendar *by)
+{
+    struct giqapsun_plan plan = by_calendar_as_expected(c, by, GIQAPSUN_WORK, GIQAPSUN_HOURS);
+    uint32_t number = plan.number == 0 || plan.number == 11 ? 10 : plan.number;
+    HOLDS(refuses_records(number) || number == 10 || number == 14 || number == 15);
+    HOLDS(by_calendar_in(c, by, GIQAPSUN_WORK - 1, GIQAPSUN_HOURS).number == number);
+    HOLDS(by_calendar_in(c, by, GIQAPSUN_WORK, by->hours - 1u).number == number);
+    met.found += plan.number == 0;
+    met.by_14 += number == 14;
+    met.by_15 += number == 15;
+    met.by_2 += number == 2;
+    met.by_11 += plan.number == 11;
+    met.by_others += (number >= 3 && number <= 8) || number == 13;
+}
+
+/* A case by a calendar of the input's own, mostly with the day's number of hours; then with the calendar at a limit,
+   and with one list in both places. */
+static void try_calendars(struct giqapsun_case c, struct bytes *rest)
+{
+    struct calendar by = drawn_calendar(rest);
+    if (take8(rest) % 8 != 0)
+        c = with_hours(c, by.hours);
+    try_calendar(c, &by);
+    struct calendar other = by;
+    bring_calendar_to_limit(&other, rest);
+    try_calendar(c, &other);
+    memcpy(by.off, by.on, sizeof by.off);
+    by.b = by.a;
+    try_calendar(c, &by);
+}
+
 int LLVMFuzzerTestOneInput(const uint8_t *data, size_t size)
 {
     static int begun;
@@ -548,8 +720,10 @@ int LLVMFuzzerTestOneInput(const uint8_t *data, size_t size)
     c = within_limits(&rest);
     HOLDS(written_in(c, GIQAPSUN_FILE_MOST).number == 0);
     try_record(c, &rest);
+    try_calendars(c, &rest);
     bring_to_limit(&c, &rest);
     bring_to_limit(&c, &rest);
     try_record(c, &rest);
+    try_calendars(c, &rest);
     return 0;
 }

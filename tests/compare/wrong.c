@@ -13,6 +13,9 @@ struct giqapsun_verdict right_check(struct giqapsun_case c, const uint16_t *list
 struct giqapsun_plan right_best(struct giqapsun_case c, int64_t *work, size_t n, uint16_t *outputs, size_t m);
 struct giqapsun_choice right_better(struct giqapsun_case c, const uint16_t *first, size_t n, const uint16_t *second,
                                     size_t m);
+struct giqapsun_plan right_best_by_calendar(struct giqapsun_case c, const uint16_t *on, size_t a, const uint16_t *off,
+                                            size_t b, uint16_t first, uint16_t hours, int64_t *work, size_t n,
+                                            uint16_t *outputs, size_t m);
 
 /* Whether the library is wrong in this way. */
 static int wrong(const char *way)
@@ -232,4 +235,170 @@ struct giqapsun_choice giqapsun_better(struct giqapsun_case c, const uint16_t *f
     if (wrong("earner") && one != other)
         choice = (struct giqapsun_choice){0, one > other ? 1 : 2, one > other ? one : other};
     return choice;
+}
+
+/* Two lists of windows, a day, and what is lent to search it. */
+struct calendar {
+    const uint16_t *on, *off;
+    size_t a, b;
+    uint16_t first, hours;
+    int64_t *work;
+    size_t n;
+    uint16_t *outputs;
+    size_t m;
+};
+
+/* What a right library answers. */
+static struct giqapsun_plan right_by(struct giqapsun_case c, const struct calendar *by)
+{
+    return right_best_by_calendar(c, by->on, by->a, by->off, by->b, by->first, by->hours, by->work, by->n, by->outputs,
+                                  by->m);
+}
+
+/* The hour after the last of a window. */
+static size_t window_end(const uint16_t *list, size_t i)
+{
+    return (size_t)list[2 * i] + list[2 * i + 1];
+}
+
+/* Whether a window holds an hour of the year. */
+static int holds(const uint16_t *list, size_t n, size_t hour)
+{
+    size_t more = wrong("last") ? 1 : 0;
+    for (size_t i = 0; i < n / 2; i++)
+        if (list[2 * i] <= hour && hour < window_end(list, i) + more)
+            return 1;
+    return 0;
+}
+
+/* Whether both lists hold one of so many hours from an hour on. */
+static int both_hold(const struct calendar *by, size_t first, size_t hours)
+{
+    for (size_t hour = first; hour < first + hours; hour++)
+        if (holds(by->on, by->a, hour) && holds(by->off, by->b, hour))
+            return 1;
+    return 0;
+}
+
+/* Whether a window of a list ends where the next begins. */
+static int touches(const uint16_t *list, size_t n)
+{
+    for (size_t i = 0; i + 1 < n / 2; i++)
+        if (window_end(list, i) == list[2 * i + 2])
+            return 1;
+    return 0;
+}
+
+/* Whether the last window of a list ends past the hours of a common year. */
+static int ends_past(const uint16_t *list, size_t n)
+{
+    return n >= 2 && window_end(list, n / 2 - 1) > 8760;
+}
+
+/* The number of a calendar that is wrong about what is refused, or about what comes first. */
+static uint32_t wrong_calendar(struct giqapsun_case c, const struct calendar *by, uint32_t right)
+{
+    if (wrong("early") && (right == 14 || right == 15) && c.hours != by->hours)
+        return 2;
+    if (wrong("fifteen") && right == 14 && both_hold(by, by->first, by->hours))
+        return 15;
+    if (right == 14)
+        return right;
+    if (wrong("touch") && (touches(by->on, by->a) || touches(by->off, by->b)))
+        return 14;
+    if (wrong("common") && (ends_past(by->on, by->a) || ends_past(by->off, by->b)))
+        return 14;
+    if (wrong("year") && both_hold(by, 0, GIQAPSUN_YEAR_HOURS))
+        return 15;
+    if (wrong("late") && right == 2 && c.hours != by->hours) {
+        uint32_t number = right_best(c, by->work, 0, by->outputs, 0).number;
+        return number == 10 ? 2 : number;
+    }
+    return right;
+}
+
+/* A copy of a list without the windows whose first hour and length have a sum of 65,536 or more; to be freed. */
+static uint16_t *without_sums(const uint16_t *list, size_t *n)
+{
+    uint16_t *copy = malloc((*n + 1) * sizeof *copy);
+    size_t kept = 0;
+    if (copy == NULL)
+        abort();
+    for (size_t i = 0; i < *n / 2; i++) {
+        if (window_end(list, i) > UINT16_MAX)
+            continue;
+        memcpy(copy + kept, list + 2 * i, 2 * sizeof *copy);
+        kept += 2;
+    }
+    if (*n % 2 == 1)
+        copy[kept++] = list[*n - 1];
+    *n = kept;
+    return copy;
+}
+
+/* What is answered where sums wrap at 65,536, and windows and days with such a sum are taken. */
+static struct giqapsun_plan wrapped(struct giqapsun_case c, struct calendar by)
+{
+    uint16_t *on = without_sums(by.on, &by.a), *off = without_sums(by.off, &by.b);
+    by.on = on;
+    by.off = off;
+    if (by.first + by.hours > UINT16_MAX)
+        by.first = 0;
+    struct giqapsun_plan plan = right_by(c, &by);
+    free(on);
+    free(off);
+    return plan;
+}
+
+/* What is answered where a test is left out: the calendar or the case is changed so that a right library takes it. */
+static struct giqapsun_plan untested(struct giqapsun_case c, struct calendar by, struct giqapsun_plan right)
+{
+    if (wrong("wrap") && right.number == 14)
+        return wrapped(c, by);
+    if (wrong("odd") && right.number == 14) {
+        by.a -= by.a % 2;
+        by.b -= by.b % 2;
+    }
+    if ((wrong("second") && right.number == 14) || (wrong("both") && right.number == 15))
+        by.b = 0;
+    if (wrong("other") && right.number == 2 && c.hours > 0 && c.hours < by.hours)
+        c.hours = by.hours;
+    if (wrong("replaced") && right.number == 8)
+        memset(c.orders, GIQAPSUN_FREE, sizeof c.orders);
+    return right_by(c, &by);
+}
+
+/* The best list of a day that is filled in a wrong way, or not at all. */
+static struct giqapsun_plan wrong_day(struct giqapsun_case c, const struct calendar *by)
+{
+    for (size_t k = 0; k < c.hours && !wrong("own"); k++) {
+        size_t hour = by->first + k + (size_t)wrong("hour");
+        int on = holds(by->on, by->a, hour), off = holds(by->off, by->b, hour);
+        if (on || off || !wrong("kept"))
+            c.orders[k] = on ? GIQAPSUN_ON : off ? GIQAPSUN_OFF : GIQAPSUN_FREE;
+    }
+    return right_best(c, by->work, by->n, by->outputs, by->m);
+}
+
+struct giqapsun_plan giqapsun_best_by_calendar(struct giqapsun_case c, const uint16_t *on, size_t a,
+                                               const uint16_t *off, size_t b, uint16_t first, uint16_t hours,
+                                               int64_t *work, size_t n, uint16_t *outputs, size_t m)
+{
+    struct calendar by = {on, off, a, b, first, hours, work, n, outputs, m};
+    struct giqapsun_plan plan = right_by(c, &by);
+    uint32_t number = wrong_calendar(c, &by, plan.number);
+    if (number != plan.number)
+        return (struct giqapsun_plan){number, 0};
+    int searched = number == 0 || number == 11;
+    if (searched && (wrong("last") || wrong("hour") || wrong("own") || wrong("kept")))
+        return wrong_day(c, &by);
+    if (!searched)
+        return untested(c, by, plan);
+    if (wrong("left") && number == 11)
+        work[0] = 1;
+    if (wrong("window") && a > 0)
+        ((uint16_t *)on)[a - 1] ^= 1;
+    if (wrong("beyond") && a > 0)
+        plan.number += ((volatile const uint16_t *)on)[a] == 0;
+    return plan;
 }

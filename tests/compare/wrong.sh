@@ -2,7 +2,7 @@
 # there that is wrong in the way that the variable WRONG names when it runs.
 wrong_library() {
     local renamed=() call
-    for call in read write check best better; do
+    for call in read write check best better best_by_calendar; do
         renamed+=(--redefine-sym "giqapsun_${call}_2=right_${call}")
     done
     mkdir -p "$1"

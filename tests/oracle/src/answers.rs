@@ -40,6 +40,16 @@ pub struct Schedule {
     pub list: Vec<u16>,
 }
 
+impl Schedule {
+    /// How many working numbers are set to 0: those that a search may ask for, if there was one.
+    pub fn zeroed_numbers(&self) -> usize {
+        match self.number {
+            0 | 11 => refusals::WORKING_NUMBERS,
+            _ => 0,
+        }
+    }
+}
+
 /// Reading tests 1, 2, 12, 3 to 8 and 13.
 pub fn reading(bytes: &[u8]) -> Reading {
     match file::read(bytes) {

@@ -1,6 +1,7 @@
 //! The structs of the C boundary, and the answers of the independent scheduler as C calls, for the fuzz target.
 
 use crate::answers;
+use crate::calendar::Calendar;
 use crate::case::Case;
 use crate::dp::best_list;
 use crate::pair;
@@ -92,6 +93,32 @@ pub unsafe extern "C" fn oracle_best(case: Case, numbers: usize, outputs: *mut u
     let answer = answers::schedule(&case, numbers, count, best_list);
     slice::from_raw_parts_mut(outputs, count)[..answer.list.len()].copy_from_slice(&answer.list);
     Plan { number: answer.number, profit: answer.profit }
+}
+
+/// Puts the orders of a calendar in place of the case's own; gives 0, or the number that refuses the calendar or the
+/// case, which is then as it was.
+///
+/// # Safety
+///
+/// So many numbers of each list of windows can be read, and the case written.
+#[no_mangle]
+pub unsafe extern "C" fn oracle_fill(
+    case: *mut Case,
+    on: *const u16,
+    on_count: usize,
+    off: *const u16,
+    off_count: usize,
+    first: u16,
+    hours: u16,
+) -> u32 {
+    let (on, off) = (slice::from_raw_parts(on, on_count), slice::from_raw_parts(off, off_count));
+    match (Calendar { on, off, first, hours }).filled(&*case) {
+        Ok(filled) => {
+            *case = filled;
+            0
+        }
+        Err(number) => number,
+    }
 }
 
 /// Compares two lists of outputs.

@@ -103,6 +103,29 @@ fn refused(name: &'static str, case: Case) -> KnownDay {
     KnownDay { name, case, question: Question::BestList, answer: Answer::Refused(11) }
 }
 
+/// A case of the known unit from 2 MW and of two hours or more, changed in ways that are refused, each with its number:
+/// those of the refusal list's examples and of request F-2.
+pub fn refused_cases(case: Case) -> Vec<(&'static str, Case, u32)> {
+    let last = case.t - 1;
+    let (mut ordered, mut above, mut below) = (case, case, case);
+    ordered.orders[last] = OFF_LINE + 1;
+    above.prices[last] = 10_000_001;
+    below.prices[0] = -10_000_001;
+    vec![
+        ("no hours", Case { t: 0, ..case }, 2),
+        ("minimum 5, capacity 4", Case { minimum: 5, ..case }, 3),
+        ("RU 0", Case { ramp_up: 0, ..case }, 4),
+        ("F 1,000,001", Case { f: 1_000_001, ..case }, 5),
+        ("F -1", Case { f: -1, ..case }, 5),
+        ("PU 2, 2", Case { pu: [2, 2, 0, 0, 0, 0, 0, 0], ..case }, 6),
+        ("p(0) 1, minimum 2", Case { p0: 1, ..case }, 7),
+        ("order 3", ordered, 8),
+        ("order 3, price 10,000,001", Case { orders: ordered.orders, ..above }, 8),
+        ("price 10,000,001", above, 13),
+        ("price -10,000,001", below, 13),
+    ]
+}
+
 /// The case whose file and text the scope gives as the program's example: case 7.
 pub fn program_example() -> Case {
     known_unit(3, &[5, 5, 5])

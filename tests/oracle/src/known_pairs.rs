@@ -1,8 +1,8 @@
 //! Pairs of lists on the unit of the known days, with the answer that request F-1 gives, worked out by hand. An on-line
 //! hour costs 2 A = 2, a start 2 B = 6 and a stop 2 C = 4 half-mills; the margin of an hour is its price less F = 10.
 
-use crate::case::{Case, FREE};
-use crate::days::known_unit;
+use crate::case::Case;
+use crate::days::{known_unit, refused_cases};
 use crate::pair::Choice;
 
 /// A pair with its answer.
@@ -28,7 +28,7 @@ pub const COUNT: u64 = 97;
 /// All pairs, by the sentences of the request.
 pub fn known_pairs() -> Vec<KnownPair> {
     let tested = [one_passes(), higher_profit(), equal_profit(), identical(), neither(), lengths()].concat();
-    [tested, refused_cases(), prices_below_zero()].concat()
+    [tested, refusals(), prices_below_zero()].concat()
 }
 
 /// A list that passes beats one that doesn't, whatever that one would earn. One hour from 2 MW: 2 and 3 pass, since RU
@@ -144,24 +144,8 @@ fn lengths() -> Vec<KnownPair> {
 }
 
 /// The refusals of the case come before 9, those of the refusal list's examples and of request F-2.
-fn refused_cases() -> Vec<KnownPair> {
-    let unit = known_unit(2, &[10; 2]);
-    let mut ordered = unit;
-    ordered.orders[..2].copy_from_slice(&[FREE, 3]);
-    let above = known_unit(2, &[10, 10_000_001]);
-    let cases = [
-        ("no hours", Case { t: 0, ..unit }, 2),
-        ("minimum 5, capacity 4", Case { minimum: 5, ..unit }, 3),
-        ("RU 0", Case { ramp_up: 0, ..unit }, 4),
-        ("F 1,000,001", Case { f: 1_000_001, ..unit }, 5),
-        ("F -1", Case { f: -1, ..unit }, 5),
-        ("PU 2, 2", Case { pu: [2, 2, 0, 0, 0, 0, 0, 0], ..unit }, 6),
-        ("p(0) 1, minimum 2", Case { p0: 1, ..unit }, 7),
-        ("order 3", ordered, 8),
-        ("order 3, price 10,000,001", Case { orders: ordered.orders, ..above }, 8),
-        ("price 10,000,001", above, 13),
-        ("price -10,000,001", known_unit(2, &[-10_000_001, 10]), 13),
-    ];
+fn refusals() -> Vec<KnownPair> {
+    let cases = refused_cases(known_unit(2, &[10; 2]));
     let lists: [(&[u16], &[u16]); 4] = [(&[2, 2], &[2, 2]), (&[2], &[2, 2]), (&[2, 2], &[2]), (&[], &[])];
     let rows = |(name, case, number)| lists.map(|(one, other)| unchosen(name, case, one, other, number));
     cases.into_iter().flat_map(rows).collect()

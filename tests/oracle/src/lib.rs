@@ -1,16 +1,19 @@
 //! The independent scheduler: the day scheduler for one thermal unit, written a second time
 //! from the papers alone. "The scope" in the comments is the paper "The day scheduler for one
 //! thermal unit"; "the source" is the Arroyo and Conejo paper, whose constraints carry numbers;
-//! request F-1 is the one for two suppliers' lists side by side, F-2 the one for prices below zero.
+//! request F-1 is the one for two suppliers' lists side by side, F-2 the one for prices below zero, F-3 the one for
+//! the outage and must-run calendar.
 
 // What the papers say.
 pub mod answers;
 pub mod best;
 pub mod c;
+pub mod calendar;
 pub mod case;
 pub mod days;
 pub mod dp;
 pub mod file;
+pub mod known_calendars;
 pub mod known_files;
 pub mod known_pairs;
 pub mod known_prices;
@@ -20,6 +23,7 @@ pub mod refusals;
 pub mod rules;
 
 // Random inputs.
+pub mod calendars;
 pub mod damage;
 pub mod lists;
 pub mod pairs;

@@ -1,5 +1,6 @@
 //! The refusal list (scope, "Refusal list"), numbers 1 to 10, with 12 and 13 of request F-2. The order of the tests
-//! is 1, 2, 12, 3 to 8, 13, 9, 10. Number 11 is the answer of a search that found nothing, and stands in `answers`.
+//! is 1, 2, 12, 3 to 8, 13, 9, 10. Number 11 is the answer of a search that found nothing, and stands in `answers`; 14
+//! and 15 of request F-3 stand in `calendar`.
 
 use crate::case::{Case, MOST_HOURS, MOST_STAGES, OFF_LINE};
 use std::ops::RangeInclusive;

@@ -67,7 +67,12 @@ pub fn longer_day(rng: &mut Rng) -> Case {
 /// A day of up to 48 hours with a small capacity, so that many of them take little time.
 pub fn long_day(rng: &mut Rng) -> Case {
     let t = rng.place(10, MOST_HOURS);
-    let capacity = rng.between16(1, 40);
+    long_day_of(rng, t, 40)
+}
+
+/// One of T hours and up to this capacity.
+pub fn long_day_of(rng: &mut Rng, t: usize, most: u16) -> Case {
+    let capacity = rng.between16(1, most);
     let minimum = if rng.once_in(5) { capacity } else { rng.between16(1, capacity) };
     let money = rng.pick(&[Money::Even, Money::Ties, Money::Small, Money::Small, Money::Extreme]);
     unit(rng, t, minimum, capacity, money)
@@ -84,6 +89,11 @@ pub fn short_day(rng: &mut Rng) -> Case {
 /// A day of any size within the limits.
 pub fn full_day(rng: &mut Rng) -> Case {
     let t = if rng.once_in(3) { MOST_HOURS } else { rng.place(1, MOST_HOURS) };
+    full_day_of(rng, t)
+}
+
+/// One of T hours.
+pub fn full_day_of(rng: &mut Rng, t: usize) -> Case {
     let capacity = if rng.once_in(4) { 400 } else { rng.between16(1, 400) };
     let minimum = match rng.below(5) {
         0 => capacity,

@@ -68,7 +68,7 @@ fn fill_from(rng: &mut Rng, case: &mut Case, pu: usize, pd: usize, hours: usize)
 }
 
 /// Sets a count to its limits, next to them, or to any number.
-fn change_count(rng: &mut Rng, case: &mut Case) {
+pub fn change_count(rng: &mut Rng, case: &mut Case) {
     let any = rng.bits() as usize;
     let far = [0, usize::MAX, usize::MAX - 1, 1 << 63, 1 << 32, (1 << 32) + 1, 256, 65_536, 65_537, any];
     let stages = [1, 2, MOST_STAGES - 1, MOST_STAGES, MOST_STAGES + 1, 16, rng.pick(&far)];

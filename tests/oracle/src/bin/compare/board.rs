@@ -1,15 +1,15 @@
 //! What the process that makes the calls tells the one that watches it, in memory that both see: how far it is, what
 //! it has counted, and the call that it is making.
 
-use crate::calls::{Call, Input, Name, Pair};
+use crate::calls::{Call, Input, Name, Pair, Windows};
 use crate::guard::{shared_bytes, Placement};
 use crate::kinds::Counts;
 use oracle::case::Case;
 use std::sync::atomic::{AtomicU64, Ordering};
 
-/// Most bytes of a file and most outputs of a list that are kept; longer ones are kept in part.
+/// Most bytes of a file and most numbers of a list that are kept; longer ones are kept in part.
 const MOST_BYTES: usize = 262_144;
-const MOST_OUTPUTS: usize = 32_768;
+const MOST_NUMBERS: usize = 32_768;
 
 /// Counts of a group.
 #[derive(Clone, Copy, Default)]
@@ -21,7 +21,7 @@ pub struct Tally {
     /// Verdicts by rule broken first, those broken at hour 0, and refusals by number.
     pub breaches: [u64; 24],
     pub at_hour_0: u64,
-    pub refusals: [u64; 14],
+    pub refusals: [u64; 16],
     /// What was met, by kind.
     pub kinds: Counts,
     /// Nanoseconds spent in the library.
@@ -37,10 +37,12 @@ struct Kept {
     lent: usize,
     case: Option<Case>,
     bytes: usize,
-    outputs: Option<usize>,
+    list: Option<usize>,
     /// The second list of a pair, and where it begins in the memory of the first.
     second: Option<usize>,
     begins: Option<usize>,
+    /// First hour and number of hours of the day whose windows the pair is.
+    day: Option<(u16, u16)>,
 }
 
 /// An input by its parts.
@@ -48,9 +50,10 @@ struct Kept {
 struct Parts<'a> {
     case: Option<&'a Case>,
     bytes: &'a [u8],
-    outputs: Option<&'a [u16]>,
+    list: Option<&'a [u16]>,
     second: Option<&'a [u16]>,
     begins: Option<usize>,
+    day: Option<(u16, u16)>,
 }
 
 impl<'a> Parts<'a> {
@@ -59,12 +62,18 @@ impl<'a> Parts<'a> {
         match *input {
             Input::File(bytes) => Parts { bytes, ..Parts::default() },
             Input::Case(case) => Parts { case: Some(case), ..Parts::default() },
-            Input::List(case, list) => Parts { case: Some(case), outputs: Some(list), ..Parts::default() },
-            Input::Pair(case, Pair { first, second, begins }) => {
-                let (outputs, second) = (Some(first), Some(second));
-                Parts { case: Some(case), outputs, second, begins, ..Parts::default() }
+            Input::List(case, list) => Parts { case: Some(case), list: Some(list), ..Parts::default() },
+            Input::Pair(case, pair) => Parts::of_pair(case, pair),
+            Input::Calendar(case, Windows { lists, first, hours }) => {
+                Parts { day: Some((first, hours)), ..Parts::of_pair(case, lists) }
             }
         }
+    }
+
+    /// The parts of two lists.
+    fn of_pair(case: &'a Case, Pair { first, second, begins }: Pair<'a>) -> Parts<'a> {
+        let (list, second) = (Some(first), Some(second));
+        Parts { case: Some(case), list, second, begins, ..Parts::default() }
     }
 }
 
@@ -77,8 +86,8 @@ struct Shared {
     tally: Tally,
     kept: Kept,
     bytes: [u8; MOST_BYTES],
-    outputs: [u16; MOST_OUTPUTS],
-    second: [u16; MOST_OUTPUTS],
+    list: [u16; MOST_NUMBERS],
+    second: [u16; MOST_NUMBERS],
 }
 
 /// A handle on the memory.
@@ -123,7 +132,7 @@ impl Board {
 
     /// Says that a call is made.
     pub fn enter(&self, call: &Call) {
-        let Parts { case, bytes, outputs, second, begins } = Parts::of(&call.input);
+        let Parts { case, bytes, list, second, begins, day } = Parts::of(&call.input);
         let kept = Kept {
             name: call.name,
             place: call.place,
@@ -131,17 +140,18 @@ impl Board {
             lent: call.lent,
             case: case.copied(),
             bytes: bytes.len().min(MOST_BYTES),
-            outputs: outputs.map(|list| list.len().min(MOST_OUTPUTS)),
-            second: second.map(|list| list.len().min(MOST_OUTPUTS)),
+            list: list.map(|list| list.len().min(MOST_NUMBERS)),
+            second: second.map(|list| list.len().min(MOST_NUMBERS)),
             begins,
+            day,
         };
         // SAFETY: as for the counts; what is copied has room.
         unsafe {
             std::ptr::addr_of_mut!((*self.0).kept).write_volatile(kept);
             let room = std::ptr::addr_of_mut!((*self.0).bytes).cast::<u8>();
             room.copy_from_nonoverlapping(bytes.as_ptr(), kept.bytes);
-            let room = std::ptr::addr_of_mut!((*self.0).outputs).cast::<u16>();
-            room.copy_from_nonoverlapping(outputs.unwrap_or(&[]).as_ptr(), kept.outputs.unwrap_or(0));
+            let room = std::ptr::addr_of_mut!((*self.0).list).cast::<u16>();
+            room.copy_from_nonoverlapping(list.unwrap_or(&[]).as_ptr(), kept.list.unwrap_or(0));
             let room = std::ptr::addr_of_mut!((*self.0).second).cast::<u16>();
             room.copy_from_nonoverlapping(second.unwrap_or(&[]).as_ptr(), kept.second.unwrap_or(0));
         }
@@ -180,14 +190,16 @@ impl Board {
         }
         let shared = self.counters();
         let kept = &shared.kept;
-        let list = &shared.outputs[..kept.outputs.unwrap_or(0)];
-        let input = match (&kept.case, kept.outputs, kept.second) {
-            (None, _, _) => Input::File(&shared.bytes[..kept.bytes]),
-            (Some(case), None, _) => Input::Case(case),
-            (Some(case), Some(_), None) => Input::List(case, list),
-            (Some(case), Some(_), Some(count)) => {
-                let second = &shared.second[..count];
-                Input::Pair(case, Pair { first: list, second, begins: kept.begins })
+        let list = &shared.list[..kept.list.unwrap_or(0)];
+        let second = &shared.second[..kept.second.unwrap_or(0)];
+        let lists = Pair { first: list, second, begins: kept.begins };
+        let input = match (&kept.case, kept.list, kept.second, kept.day) {
+            (None, _, _, _) => Input::File(&shared.bytes[..kept.bytes]),
+            (Some(case), None, _, _) => Input::Case(case),
+            (Some(case), Some(_), None, _) => Input::List(case, list),
+            (Some(case), Some(_), Some(_), None) => Input::Pair(case, lists),
+            (Some(case), Some(_), Some(_), Some((first, hours))) => {
+                Input::Calendar(case, Windows { lists, first, hours })
             }
         };
         let Kept { name, place, work, lent, .. } = *kept;

@@ -27,6 +27,22 @@ extern "C" {
         outputs_count: usize,
     ) -> Plan;
 
+    /// Finds the best list of outputs of the day that a calendar fills.
+    #[link_name = "giqapsun_best_by_calendar_2"]
+    pub fn giqapsun_best_by_calendar(
+        case: Case,
+        on: *const u16,
+        on_count: usize,
+        off: *const u16,
+        off_count: usize,
+        first: u16,
+        hours: u16,
+        work: *mut i64,
+        work_count: usize,
+        outputs: *mut u16,
+        outputs_count: usize,
+    ) -> Plan;
+
     /// Compares two lists of outputs.
     #[link_name = "giqapsun_better_2"]
     pub fn giqapsun_better(

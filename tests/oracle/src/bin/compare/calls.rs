@@ -1,14 +1,17 @@
-//! Each of the five calls, made twice in guarded memory filled with random numbers, and compared with
+//! Each of the six calls, made twice in guarded memory filled with random numbers, and compared with
 //! the answer of the independent scheduler: the answer itself and every lent number.
 
 use crate::board::Board;
-use crate::boundary::{giqapsun_best, giqapsun_better, giqapsun_check, giqapsun_read, giqapsun_write};
+use crate::boundary::{
+    giqapsun_best, giqapsun_best_by_calendar, giqapsun_better, giqapsun_check, giqapsun_read, giqapsun_write,
+};
 use crate::guard::{Lent, Placement, Region, PLACEMENTS};
 use oracle::answers::{self, Reading, Schedule, Verdict};
+use oracle::c::Plan;
+use oracle::calendar::Calendar;
 use oracle::case::Case;
 use oracle::pair::{self, Choice, Outcome};
 use oracle::random::Rng;
-use oracle::refusals::WORKING_NUMBERS;
 use std::fmt::Debug;
 use std::time::Instant;
 
@@ -19,6 +22,7 @@ pub enum Name {
     Write,
     Check,
     Best,
+    ByCalendar,
     Better,
     Independent,
 }
@@ -31,6 +35,7 @@ impl Name {
             Name::Write => "write",
             Name::Check => "check",
             Name::Best => "best",
+            Name::ByCalendar => "best_by_calendar",
             Name::Better => "better",
             Name::Independent => "independent",
         }
@@ -44,9 +49,32 @@ pub enum Input<'a> {
     Case(&'a Case),
     List(&'a Case, &'a [u16]),
     Pair(&'a Case, Pair<'a>),
+    Calendar(&'a Case, Windows<'a>),
 }
 
-/// Two lists to be compared.
+/// A calendar: the on-line windows first and the off-line ones second, and the first hour of the day with its number of
+/// hours.
+#[derive(Clone, Copy)]
+pub struct Windows<'a> {
+    pub lists: Pair<'a>,
+    pub first: u16,
+    pub hours: u16,
+}
+
+impl<'a> Windows<'a> {
+    /// A calendar whose off-line list begins there in the memory of the on-line one, or has memory of its own.
+    pub fn new(calendar: &Calendar<'a>, begins: Option<usize>) -> Windows<'a> {
+        let Calendar { on, off, first, hours } = *calendar;
+        Windows { lists: Pair { first: on, second: off, begins }, first, hours }
+    }
+
+    /// The calendar itself.
+    pub fn calendar(&self) -> Calendar<'a> {
+        Calendar { on: self.lists.first, off: self.lists.second, first: self.first, hours: self.hours }
+    }
+}
+
+/// Two lists, of outputs to be compared or of windows.
 #[derive(Clone, Copy)]
 pub struct Pair<'a> {
     pub first: &'a [u16],
@@ -74,12 +102,12 @@ impl<'a> Pair<'a> {
     }
 
     /// The memory in words.
-    fn words(&self, place: &str) -> String {
+    fn words(&self, what: &str, place: &str) -> String {
         let (first, second) = (self.first.len(), self.second.len());
         match self.begins {
-            None => format!("{first} and {second} outputs, each {place}"),
+            None => format!("{first} and {second} {what}, each {place}"),
             Some(begins) => {
-                format!("{first} and {second} outputs, the second from {begins} on in the memory of the first, {place}")
+                format!("{first} and {second} {what}, the second from {begins} on in the memory of the first, {place}")
             }
         }
     }
@@ -112,8 +140,16 @@ impl<'a> Call<'a> {
             Name::Best => {
                 format!("giqapsun_best with {} numbers and {lent} outputs, each {place}", self.work)
             }
+            Name::ByCalendar => match self.input {
+                Input::Calendar(_, windows) => format!(
+                    "giqapsun_best_by_calendar of {}, with {} numbers and {lent} outputs",
+                    windows.lists.words("numbers of windows", place),
+                    self.work
+                ),
+                _ => unreachable!("two lists of windows fill a day"),
+            },
             Name::Better => match self.input {
-                Input::Pair(_, pair) => format!("giqapsun_better of {}", pair.words(place)),
+                Input::Pair(_, pair) => format!("giqapsun_better of {}", pair.words("outputs", place)),
                 _ => unreachable!("two lists are compared"),
             },
             Name::Independent => "none: the independent scheduler disagrees with itself".to_string(),
@@ -131,6 +167,7 @@ pub struct Difference<'a> {
 pub struct Memory {
     bytes: Region,
     outputs: Region,
+    first: Region,
     second: Region,
     cases: Region,
     work: Region,
@@ -146,7 +183,8 @@ impl Memory {
         Memory {
             bytes: Region::new(4),
             outputs: Region::new(1),
-            second: Region::new(1),
+            first: Region::new(7),
+            second: Region::new(4),
             cases: Region::new(1),
             work: Region::new(2),
             noise: Rng::for_index(0, 0),
@@ -196,7 +234,7 @@ impl Memory {
         let expected = answers::verdict(case, list);
         for place in PLACEMENTS {
             let call = Call { place, ..Call::new(Name::Check, Input::List(case, list), list.len()) };
-            let lent = self.outputs.lend(list, place, &mut self.noise);
+            let lent = self.first.lend(list, place, &mut self.noise);
             // SAFETY: pointer and count are those of the lent slice.
             let raw = self.made(&call, || unsafe { giqapsun_check(*case, lent.pointer(), lent.count()) });
             let (number, hour, rule, profit) = (raw.number, raw.hour, raw.rule, raw.profit);
@@ -214,25 +252,72 @@ impl Memory {
         outputs: usize,
         expected: &Schedule,
     ) -> Result<(), Difference<'a>> {
-        let searched = expected.number == 0 || expected.number == 11;
-        let zeroed = vec![0; if searched { WORKING_NUMBERS } else { 0 }];
         for place in PLACEMENTS {
             let call =
                 Call { work: working_numbers, place, ..Call::new(Name::Best, Input::Case(case), outputs) };
-            let noise: Vec<i64> = (0..working_numbers).map(|_| self.noise.bits() as i64).collect();
-            let work = self.work.lend(&noise, place, &mut self.noise);
-            let noise: Vec<u16> = (0..outputs).map(|_| self.noise.bits() as u16).collect();
-            let list = self.outputs.lend(&noise, place, &mut self.noise);
             // SAFETY: pointers and counts are those of the lent slices.
-            let raw = self.made(&call, || unsafe {
+            self.search(&call, case.t, expected, |work, list| unsafe {
                 giqapsun_best(*case, work.pointer(), work.count(), list.pointer(), list.count())
-            });
-            let given = answer_with_outputs(raw.number, raw.profit, list.now(), case.t);
-            same(&call, given, expected.clone())?;
-            as_wanted(&call, "the outputs", &list, &expected.list)?;
-            as_wanted(&call, "the working numbers", &work, &zeroed)?;
+            })?;
         }
         Ok(())
+    }
+
+    /// Compares the search by a calendar in so many working numbers and outputs with the expected schedule; the case
+    /// is taken from guarded memory too.
+    pub fn best_by_calendar<'a>(
+        &mut self,
+        case: &'a Case,
+        windows: Windows<'a>,
+        (working_numbers, outputs): (usize, usize),
+        expected: &Schedule,
+    ) -> Result<(), Difference<'a>> {
+        let Windows { lists: pair, first, hours } = windows;
+        for place in PLACEMENTS {
+            let input = Input::Calendar(case, windows);
+            let call = Call { work: working_numbers, place, ..Call::new(Name::ByCalendar, input, outputs) };
+            let record = self.cases.lend(&[*case], place, &mut self.noise);
+            let (on, off, begins) = self.lend_pair(&pair, place);
+            // SAFETY: pointers and counts are those of the lent slices, and the record is a lent one.
+            self.search(&call, case.t, expected, |work, list| unsafe {
+                giqapsun_best_by_calendar(
+                    *record.pointer(),
+                    on.pointer(),
+                    pair.first.len(),
+                    off.pointer().add(begins),
+                    pair.second.len(),
+                    first,
+                    hours,
+                    work.pointer(),
+                    work.count(),
+                    list.pointer(),
+                    list.count(),
+                )
+            })?;
+            as_wanted(&call, "the on-line windows", &on, &[])?;
+            as_wanted(&call, "the off-line windows", &off, &[])?;
+            as_wanted(&call, "the case", &record, &[])?;
+        }
+        Ok(())
+    }
+
+    /// Makes the call of a search in lent numbers and outputs, and compares what it answers and leaves in both.
+    fn search<'a>(
+        &mut self,
+        call: &Call<'a>,
+        t: usize,
+        expected: &Schedule,
+        make: impl FnOnce(&Lent<i64>, &Lent<u16>) -> Plan,
+    ) -> Result<(), Difference<'a>> {
+        let noise: Vec<i64> = (0..call.work).map(|_| self.noise.bits() as i64).collect();
+        let work = self.work.lend(&noise, call.place, &mut self.noise);
+        let noise: Vec<u16> = (0..call.lent).map(|_| self.noise.bits() as u16).collect();
+        let list = self.outputs.lend(&noise, call.place, &mut self.noise);
+        let raw = self.made(call, || make(&work, &list));
+        let given = answer_with_outputs(raw.number, raw.profit, list.now(), t);
+        same(call, given, expected.clone())?;
+        as_wanted(call, "the outputs", &list, &expected.list)?;
+        as_wanted(call, "the working numbers", &work, &vec![0; expected.zeroed_numbers()])
     }
 
     /// Compares the comparison of two lists; the case is taken from guarded memory too.
@@ -262,11 +347,11 @@ impl Memory {
     fn lend_pair(&mut self, pair: &Pair, place: Placement) -> (Lent<u16>, Lent<u16>, usize) {
         match pair.begins {
             None => {
-                let first = self.outputs.lend(pair.first, place, &mut self.noise);
+                let first = self.first.lend(pair.first, place, &mut self.noise);
                 (first, self.second.lend(pair.second, place, &mut self.noise), 0)
             }
             Some(begins) => {
-                let both = self.outputs.lend(&pair.joined(begins), place, &mut self.noise);
+                let both = self.first.lend(&pair.joined(begins), place, &mut self.noise);
                 (both.clone(), both, begins)
             }
         }

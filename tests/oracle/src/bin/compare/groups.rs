@@ -1,16 +1,21 @@
 //! The groups of comparisons. Each index of a group makes its own case from the seed.
 
-use crate::calls::Pair;
+use crate::calls::{Pair, Windows};
 use crate::kinds::records::Asked;
 use crate::kinds::Family;
+use crate::report::Named;
 use crate::run::Run;
+use crate::wishes::named;
 use oracle::answers::{self, Schedule, Verdict};
 use oracle::best::{by_commitment, every_list, Plan};
+use oracle::calendar::{self, Calendar};
+use oracle::calendars::{drawn, Drawn, Size};
 use oracle::case::{Case, MOST_HOURS};
 use oracle::damage::damaged_file;
 use oracle::days::{self, Answer, KnownDay, Question};
 use oracle::dp::best_list;
 use oracle::file;
+use oracle::known_calendars::{self, known_calendars};
 use oracle::known_files::{self, known_files};
 use oracle::known_pairs::{self, known_pairs};
 use oracle::known_prices::{self, known_prices};
@@ -47,7 +52,7 @@ impl Group {
 }
 
 /// All groups in the order in which they run.
-pub const GROUPS: [Group; 17] = [
+pub const GROUPS: [Group; 19] = [
     group("known-days", 13, known_day, "the known days, all calls, every list checked"),
     group("known-prices", known_prices::COUNT, known_price, "known days below zero and at the limits"),
     group("source-day", 2, source_day, "the source's day, once and twice over"),
@@ -72,6 +77,14 @@ pub const GROUPS: [Group; 17] = [
     group("entries-past-counts", 2_000, entries_past_counts, "random numbers past the counts of a record"),
     group("known-pairs", known_pairs::COUNT, known_pair, "the known pairs of lists, apart and in one memory"),
     group("pairs", 40_000, pairs, "eight pairs of lists of a case or record").of_every(Family::Pair),
+    group(
+        "known-calendars",
+        known_calendars::COUNT,
+        known_calendar,
+        "the known calendars, apart and in one memory",
+    ),
+    group("calendars", 60_000, calendars, "a calendar and a case, of small units and others; long lists")
+        .of_every(Family::Calendar),
 ];
 
 /// Most lists of a unit that are all put through the check.
@@ -92,7 +105,7 @@ fn known_answer(verdict: &Verdict) -> Answer {
     }
 }
 
-/// A known day: the row's own answer, then all five calls.
+/// A known day: the row's own answer, then all calls but the calendar's.
 fn known_day(run: &mut Run, index: u64) {
     let day = &days::known_days()[index as usize];
     known_answer_of(run, day);
@@ -374,15 +387,65 @@ fn pair_in_one(run: &mut Run, case: &Case, mut list: Vec<u16>, rng: &mut Rng) {
     run.better(case, Pair::in_one(&list, count, begins));
 }
 
-/// Runs one file again: reading, and if it is accepted, all calls, lengths and many lists.
-pub fn one_file(run: &mut Run, bytes: &[u8], list: Option<&[u16]>, second: Option<&[u16]>) {
+/// A known calendar: the row's own answer, then the call with the lists apart; and with the on-line one in both places,
+/// in one memory.
+fn known_calendar(run: &mut Run, index: u64) {
+    let row = &known_calendars()[index as usize];
+    let (case, calendar) = (&row.case, row.calendar());
+    let given = calendar::schedule(case, &calendar, row.numbers, row.outputs, best_list);
+    run.independent(case, &given, &row.answer);
+    let lent = (row.numbers, row.outputs);
+    run.by_calendar(case, Windows::new(&calendar, None), lent, &row.answer, None);
+    let twice = Calendar { off: calendar.on, ..calendar };
+    let expected = calendar::schedule(case, &twice, row.numbers, row.outputs, best_list);
+    run.by_calendar(case, Windows::new(&twice, Some(0)), lent, &expected, None);
+}
+
+/// A random calendar with a case, mostly in just enough memory; once in eight times the case's own orders are searched
+/// too.
+fn calendars(run: &mut Run, index: u64) {
+    let mut rng = run.rng();
+    let size = match index % 120 {
+        0 => Size::FullUnit,
+        1 => Size::LongLists,
+        _ => Size::Small,
+    };
+    let drawn = drawn(&mut rng, size);
+    let lent = memory_of_a_day(&mut rng, &drawn);
+    let Drawn { case, begins, .. } = &drawn;
+    let calendar = drawn.calendar();
+    let expected = calendar::schedule(case, &calendar, lent.0, lent.1, best_list);
+    let is_searched = expected.number == 0 || expected.number == 11;
+    let own = (is_searched && index.is_multiple_of(8))
+        .then(|| answers::schedule(case, WORKING_NUMBERS, case.t, best_list));
+    run.by_calendar(case, Windows::new(&calendar, *begins), lent, &expected, own.as_ref());
+}
+
+/// Numbers and outputs to lend for a day: just enough, more, or short.
+fn memory_of_a_day(rng: &mut Rng, drawn: &Drawn) -> (usize, usize) {
+    let t = usize::from(drawn.hours).min(MOST_HOURS);
+    match rng.below(16) {
+        0 => (rng.pick(&[0, 8_191]), t),
+        1 => (WORKING_NUMBERS, rng.pick(&[0, t.saturating_sub(1)])),
+        2 => (0, 0),
+        3 => (rng.place(8_193, 8_300), t + rng.place(1, 30)),
+        _ => (WORKING_NUMBERS, t),
+    }
+}
+
+/// Runs one file again: reading, and if it is accepted, all calls, lengths and many lists, those that are named too.
+pub fn one_file(run: &mut Run, bytes: &[u8], lists: &[Named]) {
     run.read(bytes);
     let Ok(case) = file::read(bytes) else {
         return;
     };
+    if let Some(&[first, hours]) = named(lists, "day") {
+        let [on, off] = ["on", "off"].map(|name| named(lists, name).unwrap_or_default());
+        return one_calendar(run, &case, &Calendar { on, off, first, hours });
+    }
     let plan = best_list(&case);
-    let lists = (u64::from(case.capacity) + 2).checked_pow(case.t as u32);
-    if lists.is_some_and(|lists| lists <= 2_000_000) {
+    let count = (u64::from(case.capacity) + 2).checked_pow(case.t as u32);
+    if count.is_some_and(|count| count <= 2_000_000) {
         run.independent(&case, &plan, &every_list(&case));
     }
     println!("expected {plan:?}");
@@ -393,13 +456,23 @@ pub fn one_file(run: &mut Run, bytes: &[u8], list: Option<&[u16]>, second: Optio
         let list = any_list(&mut rng, &case);
         run.check(&case, &list);
     }
-    if let Some(list) = list {
-        println!("expected {:?}", answers::verdict(&case, list));
-        run.check(&case, list);
-        run.better(&case, Pair::in_one(list, list.len(), 0));
+    let Some(list) = named(lists, "list") else {
+        return;
+    };
+    println!("expected {:?}", answers::verdict(&case, list));
+    run.check(&case, list);
+    run.better(&case, Pair::in_one(list, list.len(), 0));
+    if let Some(second) = named(lists, "second") {
+        println!("expected {:?}", pair::choice(&case, list, second));
+        run.better(&case, Pair::apart(list, second));
     }
-    if let (Some(first), Some(second)) = (list, second) {
-        println!("expected {:?}", pair::choice(&case, first, second));
-        run.better(&case, Pair::apart(first, second));
+}
+
+/// Runs one case by a calendar again, in just enough memory and in memory that is short.
+fn one_calendar(run: &mut Run, case: &Case, calendar: &Calendar) {
+    for lent in [(WORKING_NUMBERS, case.t), (0, case.t), (WORKING_NUMBERS, case.t - 1)] {
+        let expected = calendar::schedule(case, calendar, lent.0, lent.1, best_list);
+        println!("expected {expected:?}");
+        run.by_calendar(case, Windows::new(calendar, None), lent, &expected, None);
     }
 }

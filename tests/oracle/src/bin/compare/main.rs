@@ -2,6 +2,7 @@
 //!
 //! compare [--seed N] [--groups NAME,NAME.. [--index N]] [--limit SECONDS]
 //! compare --case FILE [--list OUTPUT,OUTPUT.. [--second OUTPUT,OUTPUT..]] [--limit SECONDS]
+//! compare --case FILE --day FIRST,HOURS [--on FIRST,LENGTH..] [--off FIRST,LENGTH..] [--limit SECONDS]
 //! compare --groups
 
 mod board;
@@ -113,15 +114,14 @@ impl Series<'_> {
 
 /// Runs one file again.
 fn run_case(wishes: &Wishes, path: &std::path::Path, bytes: &[u8]) -> (u64, u64) {
-    let (list, second) = (wishes.list.as_deref(), wishes.second.as_deref());
-    let source = |_| Source::of_file(path, bytes, list, second);
+    let source = |_| Source::of_file(path, bytes, &wishes.lists);
     Series {
         name: "case",
         seed: wishes.seed,
         indices: 0..1,
         limit: wishes.limit,
         every_kind: None,
-        compare: &|run, _| one_file(run, bytes, list, second),
+        compare: &|run, _| one_file(run, bytes, &wishes.lists),
         source: &source,
     }
     .run_and_sum_up()

@@ -1,13 +1,17 @@
 //! How a difference is printed: the call with the memory it was lent, what differs, the case saved as a file, and the
 //! commands that run it again.
 
-use crate::calls::{Call, Input, Name};
+use crate::calls::{Call, Input, Name, Windows};
 use oracle::case::Case;
 use oracle::file;
 use std::path::{Path, PathBuf};
 
-/// Most outputs of a list in a command.
+/// Most numbers of a list in a command, without which there is none, and in a line.
 const MOST_LISTED: usize = 100;
+const MOST_PRINTED: usize = 1_000;
+
+/// A list, with its name, which is that of its option on the command line too.
+pub type Named = (&'static str, Vec<u16>);
 
 /// What is running, as the command line has it.
 #[derive(Default)]
@@ -27,10 +31,9 @@ impl Source {
         Source { again, name: format!("{group}-{index}"), given: None }
     }
 
-    /// A file, a list to check, and one to compare it with.
-    pub fn of_file(path: &Path, bytes: &[u8], list: Option<&[u16]>, second: Option<&[u16]>) -> Source {
-        let (list, second) = (option_words("--list", list), option_words("--second", second));
-        let again = format!("--case {}{list}{second}", quoted(path));
+    /// A file, and the lists that it is tried with.
+    pub fn of_file(path: &Path, bytes: &[u8], lists: &[Named]) -> Source {
+        let again = format!("--case {}{}", quoted(path), options(lists));
         Source { again, name: "case".to_string(), given: Some((path.to_path_buf(), bytes.to_vec())) }
     }
 }
@@ -48,21 +51,28 @@ pub fn show(source: &Source, call: &Call, difference: &str) {
     println!("{difference}");
     let case = match call.input {
         Input::File(bytes) => kept(source, call.name, bytes),
-        Input::Case(case) | Input::List(case, _) | Input::Pair(case, _) => kept_case(source, call.name, case),
+        Input::Case(case) | Input::List(case, _) | Input::Pair(case, _) | Input::Calendar(case, _) => {
+            kept_case(source, call.name, case)
+        }
     };
-    let (list, second) = match call.input {
-        Input::File(_) | Input::Case(_) => (None, None),
-        Input::List(_, list) => (Some(list), None),
-        Input::Pair(_, pair) => (Some(pair.first), Some(pair.second)),
-    };
-    list.iter().for_each(|list| println!("  list      {}", numbers(list)));
-    second.iter().for_each(|list| println!("  second    {}", numbers(list)));
+    let lists = lists(&call.input);
+    lists.iter().for_each(|(name, list)| println!("  {name:<10}{}", printed(list)));
     println!("  again     {} {}", program(), source.again);
-    if let (Some(path), None) = (case, &source.given) {
-        let few = |list: &&[u16]| list.len() <= MOST_LISTED;
-        let (list, second) = (list.filter(few), second.filter(few));
-        let (list, second) = (option_words("--list", list), option_words("--second", second));
-        println!("  alone     {} --case {}{list}{second}", program(), quoted(&path));
+    let few = lists.iter().all(|(_, list)| list.len() <= MOST_LISTED);
+    if let (Some(path), None, true) = (case, &source.given, few) {
+        println!("  alone     {} --case {}{}", program(), quoted(&path), options(&lists));
+    }
+}
+
+/// The lists of a call: outputs, or windows and the day that they fill.
+fn lists(input: &Input) -> Vec<Named> {
+    match *input {
+        Input::File(_) | Input::Case(_) => Vec::new(),
+        Input::List(_, list) => vec![("list", list.to_vec())],
+        Input::Pair(_, pair) => vec![("list", pair.first.to_vec()), ("second", pair.second.to_vec())],
+        Input::Calendar(_, Windows { lists, first, hours }) => {
+            vec![("on", lists.first.to_vec()), ("off", lists.second.to_vec()), ("day", vec![first, hours])]
+        }
     }
 }
 
@@ -106,12 +116,20 @@ fn saved(name: &str, bytes: &[u8]) -> Option<PathBuf> {
     Some(path)
 }
 
-/// A list as words of the command line, if there is one.
-fn option_words(option: &str, list: Option<&[u16]>) -> String {
-    list.map_or(String::new(), |list| format!(" {option} {}", numbers(list)))
+/// Lists as words of the command line.
+fn options(lists: &[Named]) -> String {
+    lists.iter().map(|(name, list)| format!(" --{name} {}", numbers(list))).collect()
 }
 
-/// Outputs with commas between; `none` for a list of none.
+/// A list for a line, in part if it is long.
+fn printed(list: &[u16]) -> String {
+    match list.len() {
+        0..=MOST_PRINTED => numbers(list),
+        count => format!("{},.. {count} numbers", numbers(&list[..MOST_PRINTED])),
+    }
+}
+
+/// Numbers with commas between; `none` for a list of none.
 fn numbers(list: &[u16]) -> String {
     match list.len() {
         0 => "none".to_string(),

@@ -1,9 +1,9 @@
 //! A run of comparisons: what it counts, and which differences it prints.
 
 use crate::board::{Board, Tally};
-use crate::calls::{Call, Difference, Input, Memory, Name, Pair};
+use crate::calls::{Call, Difference, Input, Memory, Name, Pair, Windows};
 use crate::kinds::records::Asked;
-use crate::kinds::{days, files, pairs, records, Family, FAMILIES};
+use crate::kinds::{calendars, days, files, pairs, records, Family, FAMILIES};
 use crate::report::{show, Source};
 use oracle::answers::{self, Schedule, Verdict};
 use oracle::best::Plan;
@@ -68,7 +68,9 @@ impl Run {
     fn tell(&mut self, difference: &Difference) {
         let case = match difference.call.input {
             Input::File(bytes) => format!("{bytes:?}"),
-            Input::Case(case) | Input::List(case, _) | Input::Pair(case, _) => format!("{case:?}"),
+            Input::Case(case) | Input::List(case, _) | Input::Pair(case, _) | Input::Calendar(case, _) => {
+                format!("{case:?}")
+            }
         };
         let about = (difference.call.name, case);
         if self.tally.shown < MOST_SHOWN && !self.told.contains(&about) {
@@ -125,6 +127,29 @@ impl Run {
         self.note(result);
     }
 
+    /// Compares the search by a calendar in so many numbers and outputs, and counts the kinds of the calendar. A day
+    /// that can be filled is searched once more with the orders written into the case, which must give the same.
+    /// `own` is what the case's own orders give, where it is known.
+    pub fn by_calendar(
+        &mut self,
+        case: &Case,
+        windows: Windows,
+        lent: (usize, usize),
+        expected: &Schedule,
+        own: Option<&Schedule>,
+    ) {
+        let result = self.memory.best_by_calendar(case, windows, lent, expected);
+        if result.is_ok() {
+            self.tally.refusals[expected.number as usize] += 1;
+            self.tally.kinds.calendar(&calendars::Met::new(case, &windows, lent, expected, own));
+        }
+        self.note(result);
+        if let Ok(filled) = windows.calendar().filled(case) {
+            let result = self.memory.best(&filled, lent.0, lent.1, expected);
+            self.note(result);
+        }
+    }
+
     /// Compares reading a file, and counts its kinds.
     pub fn read(&mut self, bytes: &[u8]) {
         let result = self.memory.read(bytes);
@@ -156,7 +181,7 @@ impl Run {
         }
     }
 
-    /// Compares all five calls on a case within the limits whose best list is known, with a few lists.
+    /// Compares all calls but the calendar's on a case within the limits whose best list is known, with a few lists.
     pub fn whole_case(&mut self, case: &Case, found: Option<Plan>, rng: &mut Rng) {
         self.files(case);
         let expected = answers::schedule(case, WORKING_NUMBERS, case.t, |_| found);
@@ -177,7 +202,7 @@ impl Run {
 pub fn remark(tally: &Tally, wanted: Option<Family>) -> String {
     let mut text = String::new();
     if tally.refusals.iter().any(|&count| count > 0) {
-        text += &format!("\n  refusals 0 to 13: {:?}", tally.refusals);
+        text += &format!("\n  refusals 0 to 15: {:?}", tally.refusals);
     }
     if tally.breaches.iter().any(|&count| count > 0) {
         let by_rule = RULES.iter().map(|&rule| tally.breaches[rule as usize]).collect::<Vec<_>>();

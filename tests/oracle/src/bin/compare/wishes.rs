@@ -1,6 +1,7 @@
 //! The command line.
 
 use crate::groups::{Group, GROUPS};
+use crate::report::Named;
 use std::path::PathBuf;
 use std::time::Duration;
 
@@ -8,10 +9,14 @@ use std::time::Duration;
 pub const USAGE: &str = "\
 usage: compare [--seed N] [--groups NAME,NAME.. [--index N]] [--limit SECONDS]
        compare --case FILE [--list OUTPUT,OUTPUT.. [--second OUTPUT,OUTPUT..]] [--limit SECONDS]
+       compare --case FILE --day FIRST,HOURS [--on FIRST,LENGTH..] [--off FIRST,LENGTH..] [--limit SECONDS]
        compare --groups
-The second runs one case, with a list to check if one is named, and a second one to compare it with; the third lists
-the groups. A call that takes longer than the limit, 10 s if none is named, is a difference. Status 1: something
-differs, or a kind of pairs, files, records or days has not come up.";
+The second runs one case, with a list to check if one is named, and a second one to compare it with; the third one
+case by a calendar; the last lists the groups. A call that takes longer than the limit, 10 s if none is named, is a
+difference. Status 1: something differs, or a kind of pairs, files, records, days or calendars has not come up.";
+
+/// Lists that may be named on the command line.
+const LISTS: [&str; 5] = ["list", "second", "on", "off", "day"];
 
 /// Seed of the first group; each next group has the next number.
 const SEED: u64 = 0x9109_a500;
@@ -29,8 +34,13 @@ pub struct Wishes {
     pub limit: Duration,
     /// A file and its bytes.
     pub case: Option<(PathBuf, Vec<u8>)>,
-    pub list: Option<Vec<u16>>,
-    pub second: Option<Vec<u16>>,
+    /// Lists that were named, in any order.
+    pub lists: Vec<Named>,
+}
+
+/// The list of this name, if there is one.
+pub fn named<'a>(lists: &'a [Named], wanted: &str) -> Option<&'a [u16]> {
+    lists.iter().find(|(name, _)| *name == wanted).map(|(_, list)| &list[..])
 }
 
 /// Reads the command line; what is wrong with it, in a line.
@@ -42,8 +52,7 @@ pub fn wishes(words: impl Iterator<Item = String>) -> Result<Wishes, String> {
         index: None,
         limit: Duration::from_secs(LIMIT),
         case: None,
-        list: None,
-        second: None,
+        lists: Vec::new(),
     };
     let mut words = words.peekable();
     while let Some(word) = words.next() {
@@ -55,14 +64,10 @@ pub fn wishes(words: impl Iterator<Item = String>) -> Result<Wishes, String> {
             "--index" => wishes.index = Some(number(&word, &value)?),
             "--limit" => wishes.limit = Duration::from_secs(number(&word, &value)?.max(1)),
             "--case" => wishes.case = Some(contents(&value)?),
-            "--list" => wishes.list = Some(outputs(&word, &value)?),
-            "--second" => wishes.second = Some(outputs(&word, &value)?),
-            _ => return Err(format!("{word} is no option")),
+            _ => wishes.lists.push((list_name(&word)?, numbers(&word, &value)?)),
         }
     }
-    if wishes.second.is_some() && wishes.list.is_none() {
-        return Err("--second asks for a --list to be compared with".to_string());
-    }
+    tested(&wishes.lists)?;
     match wishes.index {
         Some(index) if wishes.groups.iter().any(|&place| index >= GROUPS[place].count) => {
             Err(format!("not every group that is asked for has an index {index}"))
@@ -93,10 +98,33 @@ fn contents(name: &str) -> Result<(PathBuf, Vec<u8>), String> {
     std::fs::canonicalize(name).and_then(read).map_err(|error| format!("--case: '{name}': {error}"))
 }
 
-/// Outputs with commas between; `none` is a list of none.
-fn outputs(option: &str, text: &str) -> Result<Vec<u16>, String> {
+/// The list that an option names.
+fn list_name(option: &str) -> Result<&'static str, String> {
+    let name = LISTS.into_iter().find(|name| option.strip_prefix("--") == Some(name));
+    name.ok_or(format!("{option} is no option"))
+}
+
+/// Numbers of 16 bits with commas between; `none` is a list of none.
+fn numbers(option: &str, text: &str) -> Result<Vec<u16>, String> {
     let words = text.split(',').filter(|_| text != "none");
-    words.map(|word| word.trim().parse().map_err(|_| format!("{option}: '{word}' is no output"))).collect()
+    words
+        .map(|word| word.trim().parse().map_err(|_| format!("{option}: '{word}' is no 16-bit number")))
+        .collect()
+}
+
+/// Whether the lists that were named belong together.
+fn tested(lists: &[Named]) -> Result<(), String> {
+    let is_named = |name| named(lists, name).is_some();
+    if is_named("second") && !is_named("list") {
+        return Err("--second asks for a --list to be compared with".to_string());
+    }
+    if (is_named("on") || is_named("off")) && !is_named("day") {
+        return Err("--on and --off ask for a --day to be filled".to_string());
+    }
+    match named(lists, "day") {
+        None | Some([_, _]) => Ok(()),
+        Some(_) => Err("--day is a first hour and a number of hours".to_string()),
+    }
 }
 
 /// A line of the list of groups.

@@ -1,5 +1,6 @@
 //! Holds the independent scheduler against the papers and against itself. Needs no library.
 
+mod calendars;
 mod files;
 mod pairs;
 
@@ -235,6 +236,8 @@ fn main() -> ExitCode {
     group("tie of the known pairs", &mut total, plain(pairs::tie));
     group("better of all lists", &mut total, pairs::folded);
     group("random pairs", &mut total, pairs::random);
+    group("known calendars", &mut total, plain(calendars::known));
+    group("random calendars", &mut total, calendars::random);
     println!("{} passed, {} failed", total.passed, total.failed);
     ExitCode::from(u8::from(total.failed > 0))
 }

@@ -1,5 +1,7 @@
-//! The kinds of what a comparison meets, each with its test, to be counted: pairs of lists, files, records and days.
+//! The kinds of what a comparison meets, each with its test, to be counted: pairs of lists, files, records, days and
+//! calendars.
 
+pub mod calendars;
 pub mod days;
 pub mod files;
 pub mod pairs;
@@ -23,10 +25,11 @@ pub enum Family {
     File,
     Record,
     Day,
+    Calendar,
 }
 
 /// All of them, in the order in which they are printed.
-pub const FAMILIES: [Family; 4] = [Family::Pair, Family::File, Family::Record, Family::Day];
+pub const FAMILIES: [Family; 5] = [Family::Pair, Family::File, Family::Record, Family::Day, Family::Calendar];
 
 impl Family {
     /// The word for one.
@@ -36,6 +39,7 @@ impl Family {
             Family::File => "file",
             Family::Record => "record",
             Family::Day => "day",
+            Family::Calendar => "calendar",
         }
     }
 }
@@ -47,6 +51,7 @@ pub struct Counts {
     files: [u64; files::KINDS.len()],
     records: [u64; records::KINDS.len()],
     days: [u64; days::KINDS.len()],
+    calendars: [u64; calendars::KINDS.len()],
 }
 
 impl Default for Counts {
@@ -56,6 +61,7 @@ impl Default for Counts {
             files: [0; files::KINDS.len()],
             records: [0; records::KINDS.len()],
             days: [0; days::KINDS.len()],
+            calendars: [0; calendars::KINDS.len()],
         }
     }
 }
@@ -81,6 +87,11 @@ impl Counts {
         add(&days::KINDS, met, &mut self.days);
     }
 
+    /// Counts a calendar.
+    pub fn calendar(&mut self, met: &calendars::Met) {
+        add(&calendars::KINDS, met, &mut self.calendars);
+    }
+
     /// Each kind in words, with how often it came up.
     fn of(&self, family: Family) -> Vec<(&'static str, u64)> {
         match family {
@@ -88,6 +99,7 @@ impl Counts {
             Family::File => beside(&files::KINDS, &self.files),
             Family::Record => beside(&records::KINDS, &self.records),
             Family::Day => beside(&days::KINDS, &self.days),
+            Family::Calendar => beside(&calendars::KINDS, &self.calendars),
         }
     }
 
