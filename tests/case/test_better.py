@@ -9,8 +9,8 @@ import re
 from unittest import mock
 
 from tool import (
-    BELOW_ZERO, BELOW_ZERO_LIST, CASE_7, CASES, OLD_CASE_7, ROOT, SOURCE, SOURCE_LIST, SVG, PictureTest, file_of,
-    giqapsun, list_text, random_list, texts,
+    BELOW_ZERO, BELOW_ZERO_LIST, CASE_7, CASES, COLUMNS, OLD_CASE_7, ROOT, SOURCE, SOURCE_LIST, SVG, PictureTest,
+    file_of, giqapsun, list_text, random_list, texts,
 )
 
 from better import compared
@@ -306,13 +306,12 @@ class BetterFaults(PairTest):
         self.file("d.case", CASE_7)
         self.file("good.csv", list_text(BEST))
         (self.folder / "folder").mkdir()
-        there = "hour, order, price_mills, output, energy_half_mwh, earnings_half_mills, earnings_dollars"
         for data, what in [
             ("", "l.csv:1: empty; the first line names the columns"),
             (b"hour,output\n1,\xff\n", "l.csv:2: not UTF-8"),
             (b"\xff\xfe\0\1", "l.csv:1: not UTF-8"),
-            (b"\0\1", f"l.csv:1: '\\x00\\x01': no such column; there are {there}"),
-            ("hour,outputs\n1,2\n", f"l.csv:1: 'outputs': no such column; there are {there}"),
+            (b"\0\1", f"l.csv:1: '\\x00\\x01': no such column; there are {COLUMNS}"),
+            ("hour,outputs\n1,2\n", f"l.csv:1: 'outputs': no such column; there are {COLUMNS}"),
             ("hour,price_mills\n1,5\n", "l.csv:1: output: the column is missing"),
             ("output\n1\n", "l.csv:1: hour: the column is missing"),
             ("hour,output\n1,2\n3,1\n", "l.csv:3: hour: '3' where hour 2 was expected"),

@@ -6,7 +6,7 @@ import json
 import random
 from dataclasses import replace
 
-from tool import CASE_7, SOURCE, SOURCE_LIST, ToolTest, giqapsun, list_text, random_list, small, texts
+from tool import CASE_7, COLUMNS, SOURCE, SOURCE_LIST, ToolTest, giqapsun, list_text, random_list, small, texts
 
 from rules import Marks, breach, kept
 
@@ -70,11 +70,10 @@ read by the library
 
     def test_bad_lists(self):
         self.file("d.case", CASE_7)
-        there = "hour, order, price_mills, output, energy_half_mwh, earnings_half_mills, earnings_dollars"
         for text, message in [
             ("", "l.csv:1: empty; the first line names the columns"),
-            ("hour,outputs\n1,2\n", f"l.csv:1: 'outputs': no such column; there are {there}"),
-            ("2\n1\n0\n", f"l.csv:1: '2': no such column; there are {there}"),
+            ("hour,outputs\n1,2\n", f"l.csv:1: 'outputs': no such column; there are {COLUMNS}"),
+            ("2\n1\n0\n", f"l.csv:1: '2': no such column; there are {COLUMNS}"),
             ("hour\n1\n", "l.csv:1: output: the column is missing"),
             ("output\n1\n", "l.csv:1: hour: the column is missing"),
             ("hour,output\n1,2\n3,1\n", "l.csv:3: hour: '3' where hour 2 was expected"),

@@ -22,7 +22,10 @@ from tool import CASE_7, CASES, PRICES, SOURCE, SOURCE_LIST, TOOL, ToolTest, giq
 MAKE = ("make", str(CASES / "case7.toml"), str(CASES / "case7.csv"))
 
 # each command, with a file to follow
-READING = (("show",), ("best",), ("make", "u.toml"), ("check", "d.case"), ("better", "d.case", "l.csv"))
+READING = (
+    ("show",), ("best",), ("make", "u.toml"), ("check", "d.case"), ("better", "d.case", "l.csv"),
+    ("best", "d.case", "--first", "0", "--calendar"),
+)
 
 
 class Words(ToolTest):
@@ -40,6 +43,7 @@ class Words(ToolTest):
             ["make", "-", "-"], ["show", "d.case", "--json", "--csv"], ["show", "d.case", "--json", "--toml", "u.toml"],
             ["better"], ["better", "d.case", "a.csv"], ["better", "d.case", "-", "-"], ["better", "-", "a.csv", "-"],
             ["better", "d.case", "a.csv", "b.csv", "c.csv"], ["better", "d.case", "a.csv", "b.csv", "--json", "--csv"],
+            ["best", "-", "--calendar", "-", "--first", "0"],
         ):
             status, printed, message = self.run_tool(*words)
             self.assertEqual((status, printed), (2, b""))

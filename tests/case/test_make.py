@@ -3,7 +3,7 @@
 import struct
 from dataclasses import fields
 
-from tool import CASES, PRICES, UNIT, ToolTest, giqapsun, known_days, unit
+from tool import CASES, PRICES, UNIT, ToolTest, giqapsun, known_days, texts, unit
 
 # the order bytes
 ORDERS = {"free": 0, "on": 1, "off": 2}
@@ -167,7 +167,7 @@ class Refused(ToolTest):
             self.assertFalse((self.folder / "d.case").exists())
 
     def test_counts(self):
-        text = "a section length, or a count in a record, not as laid down"
+        text = texts("refusals.tsv")[2]
         for hours in (49, 30_000):
             csv = "hour,price_mills\n" + "".join(f"{k},1\n" for k in range(1, hours + 1))
             self.refused(2, text, unit(), f"p.csv: hours: {hours:,}, from 1 to 48 allowed", csv)

@@ -228,6 +228,17 @@ class NotBuilt(ToolTest):
         for words in (("check", "d.case", "l.csv"), ("better", "d.case", "l.csv", "l.csv")):
             self.assertEqual(self.run_copy(*words), (2, b"", advice))
 
+    def test_calendar(self):
+        """The day with the orders of a calendar is the library's alone, also beside a program."""
+        self.file("d.case", SOURCE)
+        self.file("y.csv", "order,first,hours\n")
+        words = ("best", "d.case", "--calendar", "y.csv", "--first", "0")
+        advice = "case: libgiqapsun.so is not built: run bindings/build.sh, or set GIQAPSUN_LIBRARY\n"
+        for more in ((), ("--hours", "24")):
+            self.assertEqual(self.run_copy(*words, *more), (2, b"", advice))
+        said = f"case: {FAKE}: a program takes no calendar; without GIQAPSUN_BEST_DAY the library serves\n"
+        self.assertEqual(self.run_copy(*words, GIQAPSUN_BEST_DAY=str(FAKE)), (2, b"", said))
+
     def test_a_library_that_is_none(self):
         """A library that is named and cannot serve is a fault; the tool's own reader does not stand in for it."""
         self.file("d.case", CASE_7)

@@ -47,6 +47,12 @@ UNIT = {
 }
 PRICES = "hour,price_mills\n1,5\n2,5\n3,5\n"
 
+# the columns that a list may have, as a fault names them
+COLUMNS = (
+    "hour, order, price_mills, output, energy_half_mwh, earnings_half_mills, earnings_dollars, year_hour, "
+    "window_first, window_hours, window_line, date, zone"
+)
+
 
 def unit(**changes):
     """The text of the unit with some keys changed, added, or left out where the value is None."""

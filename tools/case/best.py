@@ -1,4 +1,5 @@
-"""The best day of a case, as the library or the program best_day finds it, and its table."""
+"""The best day of a case, as the library or the program best_day finds it, and its table. Where a calendar gives the
+orders, the library alone finds it."""
 
 import os
 import re
@@ -6,6 +7,7 @@ import subprocess
 from dataclasses import dataclass, replace
 from pathlib import Path
 
+from calendars import Calendar
 from faults import Fault, Refused
 from hours import agree, earnings, energies
 from layout import case_of
@@ -13,18 +15,22 @@ from module import giqapsun
 from money import dollars_of_half_mills, dollars_of_mills, machine, megawatt_hours, widest
 from reading import BY, Reading, built, explained, read_case
 from tables import csv_of, json_of
-from words import ORDERS, counted, listed
+from words import ORDERS, counted, ordered_hours
 
 # the columns of a day as CSV, and the names of an hour as JSON
 COLUMNS = (
     "hour", "order", "price_mills", "output", "energy_half_mwh", "earnings_half_mills", "earnings_dollars",
 )
 
+# those that a calendar adds: the hour of the year, the window that holds it and its line; for CSV the day's date too
+WINDOW_COLUMNS = ("year_hour", "window_first", "window_hours", "window_line")
+CALENDAR_COLUMNS = (*WINDOW_COLUMNS, "date", "zone")
+
 
 @dataclass
 class Day:
-    """The best day: outputs in MW, energies in half-megawatt-hours, earnings and profit in half-mills; and who has
-    found it, `library` or the program's file."""
+    """The best day: outputs in MW, energies in half-megawatt-hours, earnings and profit in half-mills; who has found
+    it, `library` or the program's file; and the calendar that the orders of its case come from, if they do."""
 
     reading: Reading
     outputs: list
@@ -32,6 +38,7 @@ class Day:
     earnings: list
     profit: int
     found_by: str
+    calendar: Calendar | None = None
 
     def hours(self):
         """Each hour with its order, price, output, energy and earnings."""
@@ -48,8 +55,10 @@ def program():
     return None if built() else Path(__file__).resolve().parents[2] / "target/bin/best_day"
 
 
-def best_day(file, data):
-    """The best day of the bytes of a file."""
+def best_day(file, data, calendar=None):
+    """The best day of the bytes of a file, with its own orders or with those of a calendar."""
+    if calendar is not None:
+        return _by_calendar(file, data, calendar)
     runs = program()
     if runs is not None:
         return _answered(runs, file, data)
@@ -62,14 +71,31 @@ def best_day(file, data):
     return _day(reading, plan.outputs, plan.profit, "library")
 
 
+def _by_calendar(file, data, calendar):
+    """The best day with the orders of a calendar. It keeps the orders that are shown with it, or it is a fault."""
+    runs = os.environ.get("GIQAPSUN_BEST_DAY")
+    if runs:
+        raise Fault(runs, None, None, "a program takes no calendar; without GIQAPSUN_BEST_DAY the library serves")
+    calendar.test()
+    reading = read_case(file, data)
+    calendar = calendar.of(reading.case)
+    filled = replace(reading, case=replace(reading.case, orders=calendar.orders()))
+    try:
+        plan = calendar.best(reading.case)
+    except giqapsun.Refusal as refused:
+        details = [*calendar.held(), *contradiction(filled.case)] if refused.number == 11 else ()
+        raise calendar.refused(refused.number, file, details) from None
+    verdict = giqapsun.check(filled.case, plan.outputs)
+    if verdict != giqapsun.Passes(plan.profit):
+        raise Fault("the library", None, "best by calendar", f"{plan}, and with the orders of the windows {verdict}")
+    return replace(_day(filled, plan.outputs, plan.profit, "library"), calendar=calendar)
+
+
 def contradiction(case):
     """What can be said where no list keeps every rule. Without orders a unit can stay as it opens, so it is some of
     the orders that cannot be kept."""
     state = "on-line" if case.initial else "off-line"
-    for word, order in (("on-line", giqapsun.ON), ("off-line", giqapsun.OFF)):
-        hours = [k for k, given in enumerate(case.orders, 1) if given == order]
-        if hours:
-            yield f"orders: {word} at hour{'s' if len(hours) > 1 else ''} {listed(hours)}"
+    yield from (f"orders: {words}" for words in ordered_hours(case.orders))
     yield f"opening: initial {case.initial} MW, elapsed {counted(case.elapsed, 'hour')} {state}"
     yield (
         f"times: minup {case.minup}, mindown {case.mindown}; a start-up takes {counted(len(case.rise), 'hour')}, "
@@ -152,8 +178,14 @@ def best_text(day):
             f"{k:4}  {order:5}  {dollars_of_mills(price):>13}  {output:11}"
             f"  {megawatt_hours(energy):>12}  {dollars_of_half_mills(earned):>{width}}"
         )
+    if day.calendar is not None:
+        windows = (f"{window}, line {window.line}" if window else "" for window in day.calendar.windows())
+        beside = ["window (first+hours)", *windows]
+        lines = [f"{line}  {words}".rstrip() for line, words in zip(lines, beside)]
     lines.append(f"total{'':34}  {megawatt_hours(sum(day.energies)):>12}  {profit:>{width}}")
     lines.append(f"profit {day.profit} half-mills")
+    if day.calendar is not None:
+        lines += [f"calendar {day.calendar.name}: {day.calendar.day}", *day.calendar.replaced()]
     found = "the library" if day.found_by == "library" else f"the program {day.found_by}"
     lines.append(f"{BY[day.reading.by]}; found by {found}")
     return "\n".join(lines) + "\n"
@@ -161,11 +193,13 @@ def best_text(day):
 
 def best_json(day):
     """The day for a program."""
+    calendar = {} if day.calendar is None else {"calendar": day.calendar.fields()}
     return json_of({
         "profit_half_mills": day.profit,
         "profit_dollars": machine(dollars_of_half_mills(day.profit)),
         "energy_half_mwh": sum(day.energies),
-        "hours": [dict(zip(COLUMNS, row)) for row in _rows(day)],
+        **calendar,
+        "hours": [dict(zip((*COLUMNS, *WINDOW_COLUMNS), row)) for row in _rows(day)],
         "read_by": day.reading.by,
         "found_by": day.found_by,
     })
@@ -173,8 +207,20 @@ def best_json(day):
 
 def best_csv(day):
     """The day as a table."""
-    return csv_of(COLUMNS, _rows(day))
+    if day.calendar is None:
+        return csv_of(COLUMNS, _rows(day))
+    fields = day.calendar.day.fields()
+    return csv_of((*COLUMNS, *CALENDAR_COLUMNS), [(*row, fields["date"], fields["zone"]) for row in _rows(day)])
 
 
 def _rows(day):
-    return [(*hour, machine(dollars_of_half_mills(hour[-1]))) for hour in day.hours()]
+    """The row of each hour, which ends with its window if there is a calendar."""
+    rows = [(*hour, machine(dollars_of_half_mills(hour[-1]))) for hour in day.hours()]
+    if day.calendar is None:
+        return rows
+    windows = enumerate(day.calendar.windows(), day.calendar.day.first)
+    return [(*row, *_of_the_year(hour, window)) for row, (hour, window) in zip(rows, windows)]
+
+
+def _of_the_year(hour, window):
+    return (hour, window.first, window.hours, window.line) if window else (hour, None, None, None)

@@ -7,7 +7,9 @@ from dataclasses import dataclass
 
 from best import best_csv, best_day, best_json, best_text
 from better import better_csv, better_json, better_text, compared
+from calendars import Calendar
 from check import checked, checked_csv, checked_json, checked_text
+from dates import Span, hour_number, iso_date, span_of
 from faults import Fault, Refused, named
 from files import contents, write
 from lists import read_list
@@ -19,6 +21,7 @@ from reading import BY, file_of, read_case, reader
 from show import shown_csv, shown_json, shown_text
 from tables import json_of
 from unit import Unit, unit_text
+from windows import Year
 
 STATUSES = """\
 Exit status: 0 done, and for check and better: a list passes; 1 no list passes (check and better only); 2 refused, bad
@@ -39,6 +42,14 @@ SHOW = """\
 The form of the file is named: 2, or old. With --toml or --prices the files are written that make takes, and nothing is
 printed: making them again gives the same case, in form 2. A file that would be refused is not shown: the fault says
 why.
+"""
+
+BEST = """\
+With --calendar the orders come from the windows of a year in place of the case's own. The file begins with the line
+order,first,hours and has a line for each window: on or off, its first hour, counted from 0 at the year's first, and how
+many hours it holds; those of an order are sorted by first hour. The day is named by --first, and has then as many hours
+as the case unless --hours says another number; or by --date and --zone, and has then the 23, 24 or 25 hours that the
+clocks give it.
 """
 
 CHECK = """\
@@ -101,10 +112,22 @@ def show(arguments):
 
 def best(arguments):
     """The table of the best day; its plot goes to a file of its own."""
-    day = best_day(arguments.file, contents(arguments.file))
+    data = contents(arguments.file)
+    day = best_day(arguments.file, data, calendar_of(arguments))
     if arguments.plot is not None:
         write(arguments.plot, svg(day, os.path.basename(named(arguments.file))).encode())
+    if arguments.form == "csv" and day.calendar is not None:
+        say("\n".join(day.calendar.replaced()))
     return _formed(arguments, day, day.reading, best_text, best_json, best_csv)
+
+
+def calendar_of(arguments):
+    """The calendar of a command line, None where it has none."""
+    if arguments.calendar is None:
+        return None
+    if arguments.date is None:
+        return Calendar(Year(arguments.calendar), Span(arguments.first_hour, arguments.hours))
+    return Calendar(Year(arguments.calendar), span_of(arguments.date, arguments.zone))
 
 
 def check(arguments):
@@ -147,8 +170,13 @@ def parsed(words):
     command.add_argument("--toml", metavar="UNIT.toml", help="write the unit's file")
     command.add_argument("--prices", metavar="PRICES.csv", help="write the prices' file")
     _forms(command)
-    command = _command(commands, best, "find the best day of a case and print it as a table", "")
+    command = _command(commands, best, "find the best day of a case and print it as a table", BEST)
     command.add_argument("file", metavar="DAY.case")
+    command.add_argument("--calendar", metavar="YEAR.csv", help="take the orders from the windows of a year")
+    command.add_argument("--first", dest="first_hour", metavar="N", type=hour_number, help="the day's first hour")
+    command.add_argument("--hours", metavar="N", type=hour_number, help="its number of hours, if not that of the case")
+    command.add_argument("--date", metavar="YYYY-MM-DD", type=iso_date, help="the day by its date")
+    command.add_argument("--zone", metavar="NAME", help="the time zone of the date, as Europe/Madrid")
     command.add_argument("--plot", metavar="FILE.svg", help="draw outputs, prices and earnings too")
     _forms(command)
     command = _command(commands, check, "check a list of outputs", CHECK)
@@ -162,13 +190,25 @@ def parsed(words):
     command.add_argument("--plot", metavar="FILE.svg", help="draw both lists and the prices too")
     _forms(command)
     arguments = parser.parse_args(words)
-    inputs = [getattr(arguments, name, None) for name in ("unit", "file", "list", "first", "second")]
+    inputs = [getattr(arguments, name, None) for name in ("unit", "file", "list", "first", "second", "calendar")]
     inputs.append(arguments.prices if arguments.run is make else None)
     if inputs.count("-") > 1:
         parser.error("standard input can be read as one file only")
     if arguments.run is show and arguments.form != "text" and (arguments.toml or arguments.prices):
         parser.error("--toml and --prices write files; --json and --csv print")
+    if arguments.run is best:
+        _one_day(parser, arguments)
     return arguments
+
+
+def _one_day(parser, arguments):
+    """A calendar goes with one day, and a day with a calendar."""
+    names = {name for name in ("first_hour", "hours", "date", "zone") if getattr(arguments, name) is not None}
+    if arguments.calendar is None:
+        if names:
+            parser.error("--first, --hours, --date and --zone name a day of --calendar, which is missing")
+    elif names not in ({"first_hour"}, {"first_hour", "hours"}, {"date", "zone"}):
+        parser.error("--calendar needs one day: --first, with --hours or without, or --date with --zone")
 
 
 def _command(commands, run, words, description):

@@ -14,6 +14,12 @@ from words import ORDERS, counted
 WIDTH = 976
 LEFT, RIGHT = 100, 862
 
+# the width of a letter above a panel, at the most
+LETTER = 6.5
+
+# letters of a file's name that a line has room for
+MOST = 60
+
 # from the bottom of a panel to the amounts that stand below it
 BELOW = 28
 
@@ -43,6 +49,7 @@ text { font-family: 'DejaVu Sans', Verdana, sans-serif; font-size: 12px; fill: #
 .on { fill: url(#on); }
 .off { fill: url(#off); }
 .swatch { stroke: #4a4a4a; stroke-width: 1; }
+.edge { stroke: #4a4a4a; stroke-width: 1.5; }
 .shade-on { fill: #e3f1e3; }
 .shade-off { fill: #f5e2e2; }
 .shade-loss { fill: #f3d9c9; }
@@ -57,7 +64,7 @@ text { fill: #ececec; }
 .note { fill: #b8b8b8; }
 .grid { stroke: #3b3f46; }
 .axis, .gain, .loss { stroke: #ececec; }
-.limit, .swatch { stroke: #b8b8b8; }
+.limit, .swatch, .edge { stroke: #b8b8b8; }
 .output { stroke: #7ab3f2; }
 .other { stroke: #e59ad8; }
 .price { stroke: #f0a070; }
@@ -120,13 +127,14 @@ class Panel:
 
     def shades(self, orders):
         """A hatch behind the hours that have an order."""
-        for order, start, end in _runs(orders):
+        for order, start, end in runs(orders):
             yield rect(self.x(start), self.top, self.x(end) - self.x(start), self.bottom - self.top, order)
 
-    def letters(self, orders):
-        """The order of each run of hours that has one, above the panel."""
-        for order, start, end in _runs(orders):
-            yield text(self.x((start + end) / 2), self.top - 4, order, anchor="middle", kind="letters")
+    def letters(self, named):
+        """The name of each run of hours, above the panel; its first word alone where the run is too short for it."""
+        for name, start, end in named:
+            words = name if LETTER * len(name) <= self.x(end) - self.x(start) else name.split()[0]
+            yield text(self.x((start + end) / 2), self.top - 4, words, anchor="middle", kind="letters")
 
     def amount(self, hour, words):
         """An amount of an hour, upwards below the panel."""
@@ -166,8 +174,8 @@ def scale(amounts):
     return min(0, *near), max(0, *near)
 
 
-def picture(height, heading, note, orders, parts):
-    """A picture of a height: a heading, a note below it, what the hatches of orders mean, and the parts."""
+def picture(height, heading, note, key, parts):
+    """A picture of a height: a heading, a note below it, the key of the hatches, and the parts."""
     lines = [
         f'<svg xmlns="http://www.w3.org/2000/svg" width="{WIDTH}" height="{height}" '
         f'viewBox="0 0 {WIDTH} {height}" role="img">',
@@ -177,7 +185,7 @@ def picture(height, heading, note, orders, parts):
         rect(0, 0, WIDTH, height, "paper"),
         text(LEFT, 34, heading, kind="title"),
         text(LEFT, 56, note, kind="note"),
-        *_legend(orders),
+        *key,
         *parts,
         text((LEFT + RIGHT) / 2, height - 14, "hour k (each tick is the end of its hour)", "middle"),
         "</svg>",
@@ -195,7 +203,6 @@ class Outputs(Panel):
     def ground(self):
         """Orders, grid and limits, behind the lists."""
         yield from self.shades(self.case.orders)
-        yield from self.letters(self.case.orders)
         yield from self.frame("output p(k) (MW)", str)
         yield from self.limits([(self.case.capacity, "capacity"), (self.case.minimum, "minimum")])
 
@@ -247,9 +254,9 @@ def hovers(hours, place, titles):
         yield f"<g><title>{escape(title)}</title>{over}</g>"
 
 
-def ordered(k, order):
-    """An hour and its order, at the beginning of a title."""
-    return f"hour {k}" if order == "free" else f"hour {k} (ordered {order}-line)"
+def ordered(k, order, by=""):
+    """An hour and its order, at the beginning of a title; `by` says what gives the order."""
+    return f"hour {k}" if order == "free" else f"hour {k} (ordered {order}-line{by})"
 
 
 def _hatches():
@@ -263,7 +270,7 @@ def _hatches():
     yield "</defs>"
 
 
-def _runs(orders):
+def runs(orders):
     """The runs of hours that have the same order: its word, the end of the hour before, the end of the last."""
     end = 0
     for order, run in groupby(orders):
@@ -272,13 +279,13 @@ def _runs(orders):
             yield ORDERS[order], start, end
 
 
-def _legend(orders):
-    """What the hatches mean, if any hour has an order."""
+def legend(orders, meaning="ordered {}-line"):
+    """What the hatches of hours mean, if any hour has an order."""
     names = sorted({ORDERS[order] for order in orders if order}, reverse=True)
     for i, order in enumerate(names):
         x = RIGHT - 150 * (len(names) - i)
         yield rect(x, 24, 20, 14, f"{order} swatch")
-        yield text(x + 26, 35, f"{order}: ordered {order}-line", kind="note")
+        yield text(x + 26, 35, f"{order}: {meaning.format(order)}", kind="note")
 
 
 def rect(x, y, width, height, kind):
@@ -332,6 +339,11 @@ def _step(span):
             if span <= 6 * factor * step:
                 return factor * step
         step *= 10
+
+
+def shortened(name):
+    """A name, or its end where it is longer than there is room for."""
+    return name if len(name) <= MOST else f"...{name[3 - MOST:]}"
 
 
 def short(amount):

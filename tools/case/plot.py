@@ -1,9 +1,12 @@
 """The best day as an SVG picture: outputs, prices and earnings one above the other, hours along all three. Losses are
-hatched and stand below 0."""
+hatched and stand below 0. The windows of a calendar are named above their hours, and their ends have lines."""
 
 from money import decimal, dollars_of_half_mills, dollars_of_mills, megawatt_hours
-from picture import Outputs, Panel, Prices, dot, hovers, ordered, picture, polyline, rect, scale, short
-from words import printable
+from picture import (
+    LEFT, Outputs, Panel, Prices, dot, hovers, legend, line, ordered, picture, polyline, rect, runs, scale, short,
+    shortened, text,
+)
+from words import ORDERS, printable
 
 HEIGHT = 916
 OUTPUTS, PRICES, EARNINGS = (96, 306), (364, 494), (618, 768)
@@ -14,19 +17,24 @@ def svg(day, name):
     case = day.reading.case
     profit, energy = dollars_of_half_mills(day.profit), megawatt_hours(sum(day.energies))
     earned = f"profit {profit} $, energy {energy} MWh, variable cost F {dollars_of_mills(case.variable)} $/MWh"
+    key = legend(case.orders, "{}-line window") if day.calendar else legend(case.orders)
     parts = [
-        *_outputs(case, day.outputs),
+        *_outputs(day),
         *Prices(case, PRICES).drawn(),
         *_earnings(case, day.earnings),
-        *hovers(len(day.outputs), (OUTPUTS[0], EARNINGS[1]), map(_title, day.hours())),
+        *(_windows(day) if day.calendar else ()),
+        *hovers(len(day.outputs), (OUTPUTS[0], EARNINGS[1]), _titles(day)),
     ]
-    return picture(HEIGHT, f"Best day of {printable(name)}", earned, case.orders, parts)
+    return picture(HEIGHT, f"Best day of {printable(name)}", earned, key, parts)
 
 
-def _outputs(case, outputs):
-    """The output over the day: straight within each hour, a dot at the end of each, and the area below."""
+def _outputs(day):
+    """The output over the day: straight within each hour, a dot at the end of each, and the area below; the orders or
+    the windows named above."""
+    case, outputs = day.reading.case, day.outputs
     panel = Outputs(case, outputs, OUTPUTS)
     yield from panel.ground()
+    yield from panel.letters(_named(day.calendar) if day.calendar else runs(case.orders))
     points = panel.points(outputs)
     area = " ".join([panel.point(0, 0), *points, panel.point(panel.hours, 0)])
     yield f'<polygon class="area" points="{area}"/>'
@@ -49,9 +57,30 @@ def _earnings(case, earnings):
     yield from panel.cuts(parts, "amount", "far")
 
 
-def _title(hour):
-    k, order, price, output, energy, earned = hour
+def _named(calendar):
+    """The windows of the day, each by its order, first hour and hours; with the end of the hour before, and that of its
+    last."""
+    return ((f"{ORDERS[window.order]} {window}", hours[0] - 1, hours[-1]) for window, hours in calendar.runs())
+
+
+def _windows(day):
+    """The calendar below the note, and a line in each panel at both ends of each window."""
+    yield text(LEFT, 74, f"calendar {shortened(day.calendar.name)}: {day.calendar.day}", kind="note")
+    ends = {end for _, *ends in _named(day.calendar) for end in ends}
+    for top, bottom in (OUTPUTS, PRICES, EARNINGS):
+        panel = Panel(len(day.outputs), 0, 1, (top, bottom))
+        yield from (line(panel.x(end), top, panel.x(end), bottom, "edge") for end in sorted(ends))
+
+
+def _titles(day):
+    """A title for each hour, with the window that gives its order."""
+    windows = day.calendar.windows() if day.calendar else [None] * len(day.outputs)
+    for hour, window in zip(day.hours(), windows):
+        yield _title(*hour, f" by the window {window}, line {window.line}" if window else "")
+
+
+def _title(k, order, price, output, energy, earned, by):
     return (
-        f"{ordered(k, order)}: {output} MW at its end, {megawatt_hours(energy)} MWh at {dollars_of_mills(price)} "
+        f"{ordered(k, order, by)}: {output} MW at its end, {megawatt_hours(energy)} MWh at {dollars_of_mills(price)} "
         f"$/MWh, earns {dollars_of_half_mills(earned)} $"
     )

@@ -3,7 +3,9 @@ dots, the second a dashed line with squares, so that they are told apart without
 each hour where they differ."""
 
 from money import dollars_of_half_mills, dollars_of_mills
-from picture import LEFT, RIGHT, Outputs, Prices, dot, hovers, ordered, picture, polyline, rect, square, text
+from picture import (
+    LEFT, RIGHT, Outputs, Prices, dot, hovers, legend, ordered, picture, polyline, rect, runs, shortened, square, text,
+)
 from words import printable
 
 HEIGHT = 714
@@ -11,9 +13,6 @@ OUTPUTS, PRICES = (140, 370), (444, 584)
 
 # how each list is drawn, and where its key stands
 DRAWN = {"first": ("line output", dot, 80), "second": ("line other", square, 102)}
-
-# letters of a file's name that a key has room for
-MOST = 60
 
 
 def svg_of_two(pair, name):
@@ -28,28 +27,29 @@ def svg_of_two(pair, name):
         *Prices(case, PRICES).drawn(),
         *hovers(len(case.prices), (OUTPUTS[0], PRICES[1]), map(_title, pair.hours())),
     ]
-    return picture(HEIGHT, f"Two lists for {printable(name)}", f"offer {which}: {pair.why()}", case.orders, parts)
+    heading, note = f"Two lists for {printable(name)}", f"offer {which}: {pair.why()}"
+    return picture(HEIGHT, heading, note, legend(case.orders), parts)
 
 
 def _key(house):
     """How a list is drawn, its file, and what it earns or which rule it breaks."""
     kind, mark, y = DRAWN[house.place]
-    name, verdict = house.name, house.checked.verdict
-    if len(name) > MOST:
-        name = f"...{name[3 - MOST:]}"
+    verdict = house.checked.verdict
     if house.checked.passes:
         said = f"earns ${dollars_of_half_mills(house.profit)}"
     else:
         said = f"breaks rule {verdict.rule} at hour {verdict.hour}"
     yield polyline([f"{LEFT},{y}", f"{LEFT + 44},{y}"], kind)
     yield mark(f"{LEFT + 22},{y}")
-    yield text(LEFT + 54, y + 4, f"{house.place}: {name}, {said}")
+    yield text(LEFT + 54, y + 4, f"{house.place}: {shortened(house.name)}, {said}")
 
 
 def _outputs(pair):
     """Both lists over the day: straight within each hour, a mark at the end of each."""
-    panel = Outputs(pair.reading.case, [*pair.first.outputs, *pair.second.outputs], OUTPUTS)
+    case = pair.reading.case
+    panel = Outputs(case, [*pair.first.outputs, *pair.second.outputs], OUTPUTS)
     yield from panel.ground()
+    yield from panel.letters(runs(case.orders))
     for house in (pair.first, pair.second):
         kind, mark, _ = DRAWN[house.place]
         points = panel.points(house.outputs)

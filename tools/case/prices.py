@@ -17,7 +17,7 @@ class Hours:
     """The hours of a file: prices in mills per MWh and order bytes, with the line of each hour."""
 
     def __init__(self, file):
-        table = Table(file, ("hour", *PRICES, "order"))
+        table = Table(file, ("hour", *PRICES, "order"), ("hour",))
         self.file, self.column = file, _price_column(table)
         self.prices, self.orders, self.lines = [], [], []
         for line, row in table.hours():

@@ -1,5 +1,5 @@
-"""A table of the hours of a day, from a CSV file: the first line names the columns, a line for each hour follows,
-hours 1, 2, 3 and so on. Also CSV and JSON as the tool writes them."""
+"""A table from a CSV file: the first line names the columns, a line for each row follows; where the rows are the hours
+of a day, hours 1, 2, 3 and so on. Also CSV and JSON as the tool writes them."""
 
 import csv
 import io
@@ -11,11 +11,15 @@ from files import text
 
 WHOLE = re.compile(r"[+-]?[0-9]{1,15}")
 
+# the largest number that 16 bits hold
+MOST = 2**16 - 1
+
 
 class Table:
-    """The columns of a file and the line that names them; `hours` gives the cells of each hour."""
+    """The columns of a file, known ones and all that are needed, and the line that names them; `rows` or `hours` gives
+    the cells of each row."""
 
-    def __init__(self, file, known):
+    def __init__(self, file, known, needed):
         self.file = file
         self._rows = self._read()
         self.line, self.columns = next(self._rows, (1, None))
@@ -26,22 +30,32 @@ class Table:
                 raise Fault(file, self.line, quoted(name), f"no such column; there are {', '.join(known)}")
             if name in self.columns[:i]:
                 raise Fault(file, self.line, name, "the column is given twice")
-        self.needs("hour")
+        for name in needed:
+            if name not in self.columns:
+                raise Fault(file, self.line, name, "the column is missing")
 
-    def needs(self, column):
-        """The column is there, or it is a fault."""
-        if column not in self.columns:
-            raise Fault(self.file, self.line, column, "the column is missing")
-
-    def hours(self):
-        """The line and the cells of each hour, by their columns."""
-        for expected, (line, cells) in enumerate(self._rows, 1):
+    def rows(self):
+        """The line and the cells of each row, by their columns."""
+        for line, cells in self._rows:
             if len(cells) != len(self.columns):
                 raise Fault(self.file, line, None, f"{len(cells)} cells where {len(self.columns)} were expected")
-            row = dict(zip(self.columns, cells))
+            yield line, dict(zip(self.columns, cells))
+
+    def hours(self):
+        """The line and the cells of each hour."""
+        for expected, (line, row) in enumerate(self.rows(), 1):
             if not WHOLE.fullmatch(row["hour"]) or int(row["hour"]) != expected:
                 raise Fault(self.file, line, "hour", f"{quoted(row['hour'])} where hour {expected} was expected")
             yield line, row
+
+    def number(self, line, row, column, unit):
+        """The number of a cell, one that 16 bits hold."""
+        cell = row[column]
+        if not WHOLE.fullmatch(cell):
+            raise Fault(self.file, line, column, f"{quoted(cell)} is not a whole number of {unit}")
+        if not 0 <= int(cell) <= MOST:
+            raise Fault(self.file, line, column, f"{cell}, from 0 to {MOST:,} allowed")
+        return int(cell)
 
     def _read(self):
         reader = csv.reader(io.StringIO(text(self.file), newline=""), strict=True)

@@ -48,6 +48,19 @@ def listed(numbers):
     return ", ".join(str(first) if first == last else f"{first} to {last}" for first, last in runs)
 
 
+def hours_listed(hours):
+    """Hours by their numbers, as hour 3, or hours 2 to 5, 8."""
+    return f"hour{'s' if len(hours) > 1 else ''} {listed(hours)}"
+
+
+def ordered_hours(orders):
+    """The hours of each order but free, as on-line at hours 2 to 5."""
+    for order, word in enumerate(ORDERS):
+        hours = [hour for hour, given in enumerate(orders, 1) if given == order]
+        if order and hours:
+            yield f"{word}-line at {hours_listed(hours)}"
+
+
 def counted(number, noun):
     """A number and its noun, as 1 hour or 2 hours."""
     return f"{number} {noun}" if number == 1 else f"{number} {noun}s"
