@@ -68,7 +68,6 @@ not-both on off t h = go (covers on t) (covers off t) refl refl
 
 -- a record has room for the hours of a day
 pub day-room : (first hours : ℕ) → true ≡ isDay first hours → hours ≤ mostHours
-unfolding isDay
 day-room first hours e =
     let (d, y) = both (within shortDay longDay hours) (leb (first + hours) yearHours) (sym e) in
     omega (arith, within-true shortDay longDay hours d)
@@ -98,7 +97,7 @@ module _ (on off : List ℕ) (first hours : ℕ) where
 
   -- ---- 14 and 15
   tested14 : (refusal14 on off first hours ≡ false) ↔ CalendarLimited on off first hours 14
-  unfolding refusal14 isDay
+  unfolding refusal14
   tested14 = (to, from)
     where
       to : refusal14 on off first hours ≡ false → CalendarLimited on off first hours 14

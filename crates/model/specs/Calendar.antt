@@ -39,7 +39,7 @@ unfoldable pub orderIn : List ℕ → List ℕ → ℕ → ℕ
 orderIn on off t = cond (covers on t) 1 (cond (covers off t) 2 0)
 
 -- a day of the year, by its first hour: it has 23 to 25 hours and ends within the year
-unfoldable pub isDay : ℕ → ℕ → Bool
+abbrev pub isDay : ℕ → ℕ → Bool
 isDay first hours = within shortDay longDay hours && leb (first + hours) yearHours
 
 -- the on-line and the off-line windows, and a day

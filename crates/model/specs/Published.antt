@@ -153,18 +153,8 @@ pub data FileLimited (s : List ℕ) : ℕ → Type 0 where
 -- the numbers of the unit and the counts; the costs
 abbrev pub unitNumbers : Case → List ℕ
 unitNumbers c =
-    c .capacity .0
-    ∷ c .minimum .0
-    ∷ c .rampup .0
-    ∷ c .rampdown .0
-    ∷ c .minup .0
-    ∷ c .mindown .0
-    ∷ c .initial .0
-    ∷ c .elapsed .0
-    ∷ c .rises
-    ∷ c .falls
-    ∷ c .hours
-    ∷ []
+    c .capacity .0 ∷ c .minimum .0 ∷ c .rampup .0 ∷ c .rampdown .0 ∷ c .minup .0 ∷ c .mindown .0 ∷ c .initial .0
+    ∷ c .elapsed .0 ∷ c .rises ∷ c .falls ∷ c .hours ∷ []
 
 abbrev pub costs : Case → List ℤ
 costs c = c .variable .0 ∷ c .fixed .0 ∷ c .startcost .0 ∷ c .stopcost .0 ∷ []

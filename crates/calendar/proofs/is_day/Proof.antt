@@ -3,7 +3,6 @@ use borrow.Author.Needs.{needs}
 use mathlib.Core.Bool.{_&&_}
 use Rattle.model.specs.Limits.{shortDay, longDay}
 use Rattle.model.specs.Refusals.{within}
-use Rattle.model.specs.Calendar.{isDay}
 use Rattle.calendar.proofs.is_day.Statement.{statement}
 use Rattle.calendar.proofs.is_day.Tie as tie
 
@@ -11,7 +10,6 @@ in-year-requires : tie.Need-in-year-requires
 in-year-requires c κs = search needs
 
 returns : tie.Need-returns
-unfolding isDay
 returns c =
     let hours = c .before .before .before .args .hours in
     λ j. within shortDay longDay (hours .0) && c .in-year .ensures j
