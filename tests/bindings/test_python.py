@@ -236,7 +236,7 @@ class Calendar(Refusing):
 
     @staticmethod
     def day(hours):
-        """Case 7's unit, on hours whose prices lead it up and down; its own orders are off-line, which no list keeps."""
+        """Case 7's unit, on hours whose prices lead it up and down; its own orders, off-line, are kept by no list."""
         prices = [5 if hour % 9 < 4 else 20 for hour in range(hours)]
         return replace(read(CASE_7), prices=prices, orders=[giqapsun.OFF] * hours)
 

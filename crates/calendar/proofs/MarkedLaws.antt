@@ -1,5 +1,5 @@
--- The marks of the hours that windows hold: between two places of a day those of one window, and hour by hour those of a
--- list. Assumes nothing.
+-- The marks of the hours that windows hold: between two places of a day those of one window, and hour by hour those
+-- of a list. Assumes nothing.
 use mathlib.Core.Path.{_≡_, refl, sym, subst, _∙_}
 use mathlib.Core.Bool.{Bool, true, false, _&&_, _||_, cond, false≢true}
 use mathlib.Core.List.{List, [], _∷_}

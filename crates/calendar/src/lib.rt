@@ -1,7 +1,7 @@
-// The best day of a case by the calendar of a year (request F-3; model's specs/Calendar): two lists of windows, in which
-// the unit is ordered on-line and off-line, give the hours of a day their orders, in place of the case's own. Lists or a
-// day that are not as laid down are refused by 14, an hour of the day in both lists by 15, before any case is looked at.
-// Each number of a list is looked at once.
+// The best day of a case by the calendar of a year (request F-3; model's specs/Calendar): two lists of windows, in
+// which the unit is ordered on-line and off-line, give the hours of a day their orders, in place of the case's own.
+// Lists or a day that are not as laid down are refused by 14, an hour of the day in both lists by 15, before any case
+// is looked at. Each number of a list is looked at once.
 mod windows;
 
 use model::Case;
@@ -15,7 +15,7 @@ use model::SHORT_DAY;
 ghost use mathlib.Core.Bool.{not, _||_};
 ghost use mathlib.Core.List.{[]};
 ghost use mathlib.Core.Path.{_≡_};
-ghost use Prim.Native.Nat.{_+_, _≤_};
+ghost use Prim.Native.Nat.{_≤_};
 ghost use lib.Dec.{eqb};
 ghost use lib.ListN.{getD};
 ghost use Rattle.model.specs.Limits.{mostHours};
@@ -125,8 +125,8 @@ fn ordered(case: Case, orders: [u8; HOURS]) -> Case
 }
 
 // The best list of the case of a reading, on the day that the calendar orders. After 14 and 15 a refused reading is
-// returned as it is; a T that is not the day's number of hours is 2; and the record is tested with its own orders, which
-// are then replaced. On every number but 0 and 11 nothing is changed.
+// returned as it is; a T that is not the day's number of hours is 2; and the record is tested with its own orders,
+// which are then replaced. On every number but 0 and 11 nothing is changed.
 pub fn schedule_by_calendar(
     reading: Reading,
     on: &[u16],

@@ -50,8 +50,8 @@ fn mark(day: Hour, hours: Hour, order: u8, first: Hour, n: Hour, marks: &mut [u8
     put(order, begin.0 as usize, end.0 as usize, marks);
 }
 
-// Goes over a list once: whether its windows are whole, in order and within the year; and, if they are, the hours of the
-// day that they hold are marked.
+// Goes over a list once: whether its windows are whole, in order and within the year; and, if they are, the hours of
+// the day that they hold are marked.
 pub(crate) fn survey(
     list: &[u16],
     day: Hour,

@@ -199,8 +199,8 @@ pub extern "C" fn giqapsun_best_2(case: Case, work: &mut [i64], outputs: &mut [u
     plan_out(best::schedule(codec::admit(case), work, outputs))
 }
 
-// The best list of a record on the day that a calendar orders: the on-line and the off-line windows, and the day's first
-// hour and number of hours. Nothing is changed on 14, 15, 2 to 8, 13 and 10.
+// The best list of a record on the day that a calendar orders: the on-line and the off-line windows, and the day's
+// first hour and number of hours. Nothing is changed on 14, 15, 2 to 8, 13 and 10.
 #[no_mangle]
 pub extern "C" fn giqapsun_best_by_calendar_2(
     case: Case,

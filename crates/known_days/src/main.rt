@@ -1,8 +1,8 @@
-// The days whose answers are known from outside: the twelve of the scope on its small unit, pairs of lists, prices below
-// zero and far above it and days of a calendar on that unit, and the days of the source, whose case is read from
-// standard input in the old form and written in form 2. Prints one line for each: what was asked, and the answer of
-// best::schedule, of rules::check, of offers::compare with the part of offers::better, of calendar::schedule_by_calendar,
-// or of codec::write.
+// The days whose answers are known from outside: the twelve of the scope on its small unit, pairs of lists, prices
+// below zero and far above it and days of a calendar on that unit, and the days of the source, whose case is read
+// from standard input in the old form and written in form 2. Prints one line for each: what was asked, and the answer
+// of best::schedule, of rules::check, of offers::compare with the part of offers::better, of
+// calendar::schedule_by_calendar, or of codec::write.
 use libc::STDIN_FILENO;
 use libc::STDOUT_FILENO;
 use model::Case;

@@ -101,8 +101,8 @@ module _ (c : Case) (on off : List ℕ) (first hours : ℕ) (work : List ℤ) (o
     pub unread-calendar : (n : ℕ)
         → FindsRefused n work outputs (calendarOf (Refused n) c on off first hours work outputs)
     unread-calendar n =
-        rw
-        (calendarOf-unread c on off first hours work outputs (clash on off first hours 0 f) {o = Refused n} {n = n} refl)
+        let e = clash on off first hours 0 f in
+        rw (calendarOf-unread c on off first hours work outputs e {o = Refused n} {n = n} refl)
         (refused-finds c work outputs n)
 
     pub other-day : (last c ≡ hours → ⊥)

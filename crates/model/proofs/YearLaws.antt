@@ -1,5 +1,5 @@
--- Limits and orders of a day by the windows that hold its hours, as the definitions test them and as they are published.
--- Assumes nothing.
+-- Limits and orders of a day by the windows that hold its hours, as the definitions test them and as they are
+-- published. Assumes nothing.
 use mathlib.Core.Path.{_≡_, refl, sym, ap, subst, _∙_}
 use mathlib.Core.Logic.{_↔_}
 use mathlib.Core.Bool.{Bool, true, false, _&&_, not, cond, false≢true}
@@ -142,8 +142,8 @@ module _ (on off : List ℕ) (first hours : ℕ) where
       → firstOf (calendarTests on off first hours []) ≡ n
   unfolding firstOf calendarTests
   clash n =
-      first-exactly
-      (first-test (refusal14 on off first hours) tested14 (first-test (refusal15 on off first hours) tested15 none)) n .1
+      let second = first-test (refusal15 on off first hours) tested15 none in
+      first-exactly (first-test (refusal14 on off first hours) tested14 second) n .1
 
   -- where neither applies, the limits of both are kept
   kept : FirstRefused (CalendarLimited on off first hours) calendarOrder 0

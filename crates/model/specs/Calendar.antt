@@ -1,6 +1,6 @@
--- The calendar of a year (request F-3): windows in which the unit is ordered on-line or off-line, a day whose orders are
--- filled from them, and what the search of that day answers and leaves. Hours of the year count from 0, those of the day
--- from 1. Definitions only. Assumes nothing.
+-- The calendar of a year (request F-3): windows in which the unit is ordered on-line or off-line, a day whose orders
+-- are filled from them, and what the search of that day answers and leaves. Hours of the year count from 0, those of
+-- the day from 1. Definitions only. Assumes nothing.
 use mathlib.Core.Bool.{Bool, true, false, _&&_, _||_, not, cond}
 use mathlib.Core.List.{List, [], _∷_}
 use Prim.Native.Nat.{ℕ, _+_}

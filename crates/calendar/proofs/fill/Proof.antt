@@ -1,5 +1,5 @@
--- `calendar::fill` meets its contract: the tests of the day and of the lists in turn, and the marks of both lists hour by
--- hour. Assumes nothing.
+-- `calendar::fill` meets its contract: the tests of the day and of the lists in turn, and the marks of both lists
+-- hour by hour. Assumes nothing.
 use borrow.Author.Needs.{needs}
 use borrow.Author.Tests.{not-true, not-false}
 use mathlib.Core.Path.{_≡_, refl, sym, _∙_}

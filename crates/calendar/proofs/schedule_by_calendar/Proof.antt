@@ -3,11 +3,12 @@
 use borrow.Author.Needs.{needs}
 use mathlib.Core.Path.{_≡_, refl, sym, ap, _∙_}
 use mathlib.Core.List.{[]}
+use Rattle.model.specs.declared.Outcome.{Outcome}
 use Rattle.model.specs.declared.Outcome.the-variants.{Accepted}
 use Rattle.model.specs.declared.Plan.the-variants.{Refused as NotPlanned}
 use Rattle.model.specs.Layout.{withArrays}
 use Rattle.model.specs.Refusals.{firstOf}
-use Rattle.model.specs.Answers.{scheduleOf}
+use Rattle.model.specs.Answers.{Scheduling, scheduleOf}
 use Rattle.model.specs.Calendar.{calendarTests, calendarOf}
 use Rattle.model.proofs.ScheduleLaws.{left}
 use Rattle.model.proofs.CalendarLaws.{calendarOf-clash, calendarOf-unread, calendarOf-other, calendarOf-outside}
@@ -57,17 +58,14 @@ cast-if2 c = search needs
 abbrev opened : tie.After-case → tie.Else1
 opened c = c .before .before .before
 
-accepted : (c : tie.After-case)
-    → calendarOf (start (opened c) .args .reading .outcome) (start (opened c) .args .reading .case)
-    (start (opened c) .args .on .now) (start (opened c) .args .off .now) (start (opened c) .args .first .0)
-    (start (opened c) .args .hours .0) (start (opened c) .args .work .now) (start (opened c) .args .outputs .now)
-    ≡ calendarOf Accepted (start (opened c) .args .reading .case)
-    (start (opened c) .args .on .now) (start (opened c) .args .off .now) (start (opened c) .args .first .0)
-    (start (opened c) .args .hours .0) (start (opened c) .args .work .now) (start (opened c) .args .outputs .now)
-accepted c =
+abbrev asked : tie.After-case → Outcome → Scheduling
+asked c o =
     let a = start (opened c) .args in
-    ap (λ o. calendarOf o (a .reading .case) (a .on .now) (a .off .now) (a .first .0) (a .hours .0) (a .work .now)
-    (a .outputs .now)) (c .before .enum-told .given .1)
+    calendarOf o (a .reading .case) (a .on .now) (a .off .now) (a .first .0) (a .hours .0) (a .work .now)
+    (a .outputs .now)
+
+accepted : (c : tie.After-case) → asked c (start (opened c) .args .reading .outcome) ≡ asked c Accepted
+accepted c = ap (asked c) (c .before .enum-told .given .1)
 
 returns-3 : tie.Need-returns-3
 returns-3 c =

@@ -1,5 +1,5 @@
--- `calendar::windows::put` meets its contract. The invariant: the places passed are marked, and the others as they were.
--- Assumes nothing.
+-- `calendar::windows::put` meets its contract. The invariant: the places passed are marked, and the others as they
+-- were. Assumes nothing.
 use mathlib.Core.Path.{_≡_, refl, subst}
 use Prim.Native.Nat.{_+_, _-_, _≤_, max}
 use native.Mathlib.Nat.{zero-add}

@@ -1,5 +1,5 @@
--- `calendar::windows::survey` meets its contract. The invariant: the windows passed stand in order, and the hours of the
--- day that they hold are marked. Assumes nothing.
+-- `calendar::windows::survey` meets its contract. The invariant: the windows passed stand in order, and the hours of
+-- the day that they hold are marked. Assumes nothing.
 use borrow.Author.Needs.{needs}
 use borrow.Author.Tests.{not-true, not-false}
 use mathlib.Core.Path.{refl, sym, _∙_}
@@ -51,10 +51,9 @@ stands-requires c κs = search needs
 
 returns-2 : tie.Need-returns-2 Inv-loop μ-loop
 returns-2 c =
-    let l = c .before .before .before .before .before .before .loop in (
-      surveyed-unfit _ _ _ (l .inv) (search needs) refl refl (sym (c .before .stands .ensures) ∙ not-true _ (c .if2 .taken)),
-      λ e. absurd (false≢true e),
-    )
+    let l = c .before .before .before .before .before .before .loop in
+    let unfit = sym (c .before .stands .ensures) ∙ not-true _ (c .if2 .taken) in
+    (surveyed-unfit _ _ _ (l .inv) (search needs) refl refl unfit, λ e. absurd (false≢true e))
 
 mark-requires : tie.Need-mark-requires Inv-loop μ-loop
 mark-requires c κs =
