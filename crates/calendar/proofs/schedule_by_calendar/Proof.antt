@@ -2,14 +2,18 @@
 -- record, and else the search of the day. Assumes nothing.
 use borrow.Author.Needs.{needs}
 use mathlib.Core.Path.{_≡_, refl, sym, ap, _∙_}
+use mathlib.Core.Bool.{cond}
 use mathlib.Core.List.{[]}
+use lib.Dec.{eqb}
+use lib.ListN.{replicate}
 use Rattle.model.specs.declared.Outcome.{Outcome}
 use Rattle.model.specs.declared.Outcome.the-variants.{Accepted}
 use Rattle.model.specs.declared.Plan.the-variants.{Refused as NotPlanned}
+use Rattle.model.specs.Limits.{mostHours}
 use Rattle.model.specs.Layout.{withArrays}
 use Rattle.model.specs.Refusals.{firstOf}
 use Rattle.model.specs.Answers.{Scheduling, scheduleOf}
-use Rattle.model.specs.Calendar.{calendarTests, calendarOf}
+use Rattle.model.specs.Calendar.{filledOrders, calendarTests, calendarOf}
 use Rattle.model.proofs.ScheduleLaws.{left}
 use Rattle.model.proofs.CalendarLaws.{calendarOf-clash, calendarOf-unread, calendarOf-other, calendarOf-outside}
 use Rattle.model.proofs.CalendarLaws.{calendarOf-day}
@@ -104,7 +108,9 @@ returns-5 c =
     let d = e .before .before .before in
     let a = start (opened d) .args in
     let case = a .reading .case in
-    let orders = opened d .before .before .fill .ensures .1 (opened d .if1 .left) in
+    let filled = filledOrders (a .on .now) (a .off .now) (a .first .0) (a .hours .0) in
+    let orders = opened d .before .before .fill .ensures .1
+    ∙ ap (λ n. cond (eqb n 0) filled (replicate mostHours 0)) (opened d .if1 .left) in
     let day = g .before .before .before .ordered .ensures
     ∙ ap (withArrays case (case .rise) (case .fall) (case .prices)) orders in
     left _ _

@@ -13,7 +13,7 @@ use Rattle.model.specs.Limits.{mostHours, yearHours}
 use Rattle.model.specs.Calendar.{windowsFrom}
 use Rattle.model.proofs.LayoutLaws.{length-listed}
 use Rattle.model.proofs.WindowsLaws.{windowsFrom-cons}
-use Rattle.calendar.specs.Marked.{marked, overlaid}
+use Rattle.orders.specs.Marked.{marked, overlaid}
 
 -- what is left of a list from a place on
 drop-one : (l : List ℕ) (i : ℕ) → suc i ≡ length l → drop i l ≡ getD l i 0 ∷ []

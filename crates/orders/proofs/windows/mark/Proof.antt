@@ -1,10 +1,10 @@
--- `calendar::windows::mark` meets its contract: between the two places are the hours that the window holds. Assumes
+-- `orders::windows::mark` meets its contract: between the two places are the hours that the window holds. Assumes
 -- nothing.
 use borrow.Author.Needs.{needs}
 use native.Mathlib.Omega.{arith}
-use Rattle.calendar.proofs.MarkedLaws.{marked-of-part}
-use Rattle.calendar.proofs.windows.mark.Statement.{statement}
-use Rattle.calendar.proofs.windows.mark.Tie as tie
+use Rattle.orders.proofs.MarkedLaws.{marked-of-part}
+use Rattle.orders.proofs.windows.mark.Statement.{statement}
+use Rattle.orders.proofs.windows.mark.Tie as tie
 
 less-requires : tie.Need-less-requires
 less-requires c κs = search needs

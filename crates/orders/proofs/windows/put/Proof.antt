@@ -1,4 +1,4 @@
--- `calendar::windows::put` meets its contract. The invariant: the places passed are marked, and the others as they
+-- `orders::windows::put` meets its contract. The invariant: the places passed are marked, and the others as they
 -- were. Assumes nothing.
 use mathlib.Core.Path.{_≡_, refl, subst}
 use Prim.Native.Nat.{_+_, _-_, _≤_, max}
@@ -7,8 +7,8 @@ use native.Mathlib.Omega.{arith}
 use lib.ListN.{set}
 use Rattle.laws.specs.Placed.{Part}
 use Rattle.laws.proofs.PlacedLaws.{part-start, part-up}
-use Rattle.calendar.proofs.windows.put.Statement.{statement}
-use Rattle.calendar.proofs.windows.put.Tie as tie
+use Rattle.orders.proofs.windows.put.Statement.{statement}
+use Rattle.orders.proofs.windows.put.Tie as tie
 
 abbrev Inv-loop : tie.InvT-loop
 Inv-loop mark a b marks₀ k₀ marks k =

@@ -1,4 +1,4 @@
--- `calendar::meet` meets its contract. The invariant: `apart` is the test of the hours passed. Assumes nothing.
+-- `orders::meet` meets its contract. The invariant: `apart` is the test of the hours passed. Assumes nothing.
 use mathlib.Core.Path.{_≡_, refl, ap, _∙_}
 use mathlib.Core.Bool.{_||_, not}
 use Prim.Native.Nat.{_-_, _≤_}
@@ -7,8 +7,8 @@ use lib.Dec.{eqb}
 use lib.ListN.{getD}
 use Rattle.model.specs.Symbols.{every, before}
 use Rattle.model.proofs.RefusalsLaws.{every-none, every-more}
-use Rattle.calendar.proofs.meet.Statement.{statement}
-use Rattle.calendar.proofs.meet.Tie as tie
+use Rattle.orders.proofs.meet.Statement.{statement}
+use Rattle.orders.proofs.meet.Tie as tie
 
 abbrev Inv-loop : tie.InvT-loop
 Inv-loop n ons offs apart₀ k₀ apart k =

@@ -11,8 +11,8 @@ use Rattle.model.specs.Symbols.{every, before}
 use Rattle.model.specs.Layout.{padded}
 use Rattle.model.specs.Calendar.{covers, orderIn, refusal15, filledOrders}
 use Rattle.model.proofs.YearLaws.{refusal15-hours, filledOrders-hours}
-use Rattle.calendar.specs.Marked.{oneOf, overlaid}
-use Rattle.calendar.proofs.MarkedLaws.{getD-overlaid}
+use Rattle.orders.specs.Marked.{oneOf, overlaid}
+use Rattle.orders.proofs.MarkedLaws.{getD-overlaid}
 
 module _ (on off : List ℕ) (first hours : ℕ) (room : hours ≤ mostHours) where
   -- the mark of an hour by a list, where none was before

@@ -1,4 +1,4 @@
--- `calendar::windows::survey` meets its contract. The invariant: the windows passed stand in order, and the hours of
+-- `orders::windows::survey` meets its contract. The invariant: the windows passed stand in order, and the hours of
 -- the day that they hold are marked. Assumes nothing.
 use borrow.Author.Needs.{needs}
 use borrow.Author.Tests.{not-true, not-false}
@@ -8,10 +8,10 @@ use Prim.Native.Nat.{_+_, _-_, _≤_}
 use native.Mathlib.Omega.{arith}
 use lib.ListN.{length, getD}
 use Rattle.model.specs.Limits.{yearHours}
-use Rattle.calendar.proofs.SurveyLaws.{Surveyed, surveyed-start, surveyed-odd, surveyed-unfit, surveyed-step}
-use Rattle.calendar.proofs.SurveyLaws.{surveyed-end, stands-year}
-use Rattle.calendar.proofs.windows.survey.Statement.{statement}
-use Rattle.calendar.proofs.windows.survey.Tie as tie
+use Rattle.orders.proofs.SurveyLaws.{Surveyed, surveyed-start, surveyed-odd, surveyed-unfit, surveyed-step}
+use Rattle.orders.proofs.SurveyLaws.{surveyed-end, stands-year}
+use Rattle.orders.proofs.windows.survey.Statement.{statement}
+use Rattle.orders.proofs.windows.survey.Tie as tie
 
 abbrev Inv-loop : tie.InvT-loop
 Inv-loop list day hours order marks₀ from₀ i₀ marks from i =

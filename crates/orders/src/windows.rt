@@ -7,7 +7,7 @@ ghost use lib.ListN.{length};
 ghost use Rattle.laws.specs.Placed.{Part};
 ghost use Rattle.model.specs.Limits.{mostHours, yearHours};
 ghost use Rattle.model.specs.Calendar.{windowsFrom};
-ghost use Rattle.calendar.specs.Marked.{marked, overlaid};
+ghost use Rattle.orders.specs.Marked.{marked, overlaid};
 use model::HOURS;
 use model::Hour;
 use model::YEAR_HOURS;

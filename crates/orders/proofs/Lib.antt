@@ -1,4 +1,4 @@
--- Laws that the proofs of the calendar share.
+-- Laws that the proofs of the orders share.
 pub mod MarkedLaws
 pub mod SurveyLaws
 pub mod FillLaws

@@ -1,8 +1,8 @@
--- `calendar::one_of` meets its contract. Assumes nothing.
+-- `orders::one_of` meets its contract. Assumes nothing.
 use mathlib.Core.Path.{refl}
 use borrow.Author.Tests.{eq-eqb, ne-eqb}
-use Rattle.calendar.proofs.one_of.Statement.{statement}
-use Rattle.calendar.proofs.one_of.Tie as tie
+use Rattle.orders.proofs.one_of.Statement.{statement}
+use Rattle.orders.proofs.one_of.Tie as tie
 
 returns : tie.Need-returns
 returns c = rw (eq-eqb (c .before .args .on) 0 (c .if1 .taken)) refl

@@ -17,7 +17,7 @@ use Rattle.model.specs.Layout.{listed}
 use Rattle.model.specs.Calendar.{spans, covers}
 use Rattle.model.proofs.LayoutLaws.{length-listed, getD-listed}
 use Rattle.model.proofs.WindowsLaws.{spans-hour, hour-spans}
-use Rattle.calendar.specs.Marked.{marked, overlaid}
+use Rattle.orders.specs.Marked.{marked, overlaid}
 
 module _ (day hours mark first n : ℕ) where
   -- the places of the hours that a window holds

@@ -1,9 +1,9 @@
--- `calendar::windows::stands` meets its contract. The test is the definition's own. Assumes nothing.
+-- `orders::windows::stands` meets its contract. The test is the definition's own. Assumes nothing.
 use borrow.Author.Needs.{needs}
 use mathlib.Core.Bool.{_&&_}
 use lib.Dec.{leb}
-use Rattle.calendar.proofs.windows.stands.Statement.{statement}
-use Rattle.calendar.proofs.windows.stands.Tie as tie
+use Rattle.orders.proofs.windows.stands.Statement.{statement}
+use Rattle.orders.proofs.windows.stands.Tie as tie
 
 in-year-requires : tie.Need-in-year-requires
 in-year-requires c κs = search needs

@@ -1,4 +1,4 @@
--- `calendar::merged` meets its contract. The invariant: the orders of the first k hours are there, and 0 stands past
+-- `orders::merged` meets its contract. The invariant: the orders of the first k hours are there, and 0 stands past
 -- them. Assumes nothing.
 use borrow.Author.Needs.{needs}
 use Prim.Native.Nat.{_-_}
@@ -6,9 +6,9 @@ use native.Mathlib.Omega.{arith}
 use lib.ListN.{getD}
 use Rattle.model.specs.Limits.{mostHours}
 use Rattle.model.proofs.FilledLaws.{Filled, filled-start, filled-step, filled-end}
-use Rattle.calendar.specs.Marked.{oneOf}
-use Rattle.calendar.proofs.merged.Statement.{statement}
-use Rattle.calendar.proofs.merged.Tie as tie
+use Rattle.orders.specs.Marked.{oneOf}
+use Rattle.orders.proofs.merged.Statement.{statement}
+use Rattle.orders.proofs.merged.Tie as tie
 
 abbrev Inv-loop : tie.InvT-loop
 Inv-loop n ons offs orders₀ k₀ orders k = Filled 0 (λ i. oneOf (getD ons i 0) (getD offs i 0)) n mostHours orders k

@@ -1,10 +1,10 @@
--- `calendar::is_day` meets its contract. The test is the definition's own. Assumes nothing.
+-- `orders::is_day` meets its contract. The test is the definition's own. Assumes nothing.
 use borrow.Author.Needs.{needs}
 use mathlib.Core.Bool.{_&&_}
 use Rattle.model.specs.Limits.{shortDay, longDay}
 use Rattle.model.specs.Refusals.{within}
-use Rattle.calendar.proofs.is_day.Statement.{statement}
-use Rattle.calendar.proofs.is_day.Tie as tie
+use Rattle.orders.proofs.is_day.Statement.{statement}
+use Rattle.orders.proofs.is_day.Tie as tie
 
 in-year-requires : tie.Need-in-year-requires
 in-year-requires c κs = search needs
