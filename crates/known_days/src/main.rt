@@ -70,13 +70,13 @@ fn print_list(outputs: &[u16], hours: usize) {
 }
 
 // A plan, and the list that was found.
-fn print_plan(name: &[u8], plan: Plan, outputs: &[u16], hours: usize) {
+fn print_plan(name: &[u8], plan: Plan, case: Case, outputs: &[u16]) {
     io::write_all(STDOUT_FILENO, name);
     match plan {
         Plan::Found(profit) => {
             print_profit(profit);
             io::write_all(STDOUT_FILENO, b" list");
-            print_list(outputs, hours);
+            print_list(outputs, case.hours);
         }
         Plan::Refused(number) => {
             print_number(b" refused ", number as u64);
@@ -91,7 +91,7 @@ fn print_best(name: &[u8], reading: Reading) {
     let mut outputs = [0u16; HOURS];
     let case = reading.case;
     let plan = best::schedule(reading, &mut work, &mut outputs);
-    print_plan(name, plan, &outputs, case.hours);
+    print_plan(name, plan, case, &outputs);
 }
 
 // The best list on a day of the year, by its on-line and off-line windows.
@@ -108,7 +108,7 @@ fn print_day(name: &[u8], reading: Reading, on: &[u16], off: &[u16], first: Hour
         &mut work,
         &mut outputs,
     );
-    print_plan(name, plan, &outputs, case.hours);
+    print_plan(name, plan, case, &outputs);
 }
 
 // The verdict of a list.
@@ -313,12 +313,12 @@ fn print_limits() {
 }
 
 // A day of the unit off-line at a price of F, with one order for every hour: what is ordered on-line costs.
-fn quiet(hours: usize, order: u8) -> Reading {
+fn quiet(hours: Hour, order: u8) -> Reading {
     small(
         Output(0),
         Hour(2),
         Hour(1),
-        hours,
+        hours.0 as usize,
         Mills(10),
         [order; HOURS],
     )
@@ -326,7 +326,14 @@ fn quiet(hours: usize, order: u8) -> Reading {
 
 // That day of 24 hours from hour 100 of the year on, with on-line windows, or with off-line windows, alone.
 fn print_on(name: &[u8], on: &[u16]) {
-    print_day(name, quiet(24, 0), on, &[0u16; 0], Hour(100), Hour(24));
+    print_day(
+        name,
+        quiet(Hour(24), 0),
+        on,
+        &[0u16; 0],
+        Hour(100),
+        Hour(24),
+    );
 }
 
 fn print_off(name: &[u8], reading: Reading, off: &[u16]) {
@@ -340,10 +347,15 @@ fn print_open(name: &[u8], reading: Reading, first: Hour, hours: Hour) {
 
 // Days of 23 and 25 hours; a window holds its first hour and not the hour after its last; windows that touch.
 fn print_windows() {
-    print_open(b"23 hours, no window", quiet(23, 0), Hour(100), Hour(23));
+    print_open(
+        b"23 hours, no window",
+        quiet(Hour(23), 0),
+        Hour(100),
+        Hour(23),
+    );
     print_day(
         b"25 hours on-line",
-        quiet(25, 0),
+        quiet(Hour(25), 0),
         &[100u16, 25],
         &[0u16; 0],
         Hour(100),
@@ -360,11 +372,16 @@ fn print_replaced() {
     let late = small(Output(0), Hour(1), Hour(2), 24, Mills(10), [0u8; HOURS]);
     print_off(
         b"own on-line, off-line by a window",
-        quiet(24, 1),
+        quiet(Hour(24), 1),
         &[100u16, 24],
     );
-    print_open(b"own on-line, no window", quiet(24, 1), Hour(100), Hour(24));
-    print_off(b"own order 3", quiet(24, 3), &[100u16, 24]);
+    print_open(
+        b"own on-line, no window",
+        quiet(Hour(24), 1),
+        Hour(100),
+        Hour(24),
+    );
+    print_off(b"own order 3", quiet(Hour(24), 3), &[100u16, 24]);
     print_day(
         b"too early",
         late,
@@ -379,7 +396,7 @@ fn print_replaced() {
 fn print_meeting(name: &[u8], first: Hour) {
     print_day(
         name,
-        quiet(24, 0),
+        quiet(Hour(24), 0),
         &[100u16, 2],
         &[101u16, 2],
         first,
@@ -389,7 +406,7 @@ fn print_meeting(name: &[u8], first: Hour) {
 
 // 2: T is not the day's number of hours, also where the record would be refused by 3.
 fn print_other_day() {
-    let reading = quiet(24, 0);
+    let reading = quiet(Hour(24), 0);
     let mut case = reading.case;
     let minimum = Output(0);
     case.minimum = minimum;
@@ -407,15 +424,15 @@ fn print_misplaced() {
     print_on(b"odd", &[100u16]);
     print_on(b"unsorted", &[200u16, 5, 100, 5]);
     print_on(b"past 8784", &[8783u16, 2]);
-    print_off(b"empty", quiet(24, 0), &[100u16, 0]);
-    print_off(b"overlapping", quiet(24, 0), &[100u16, 5, 104, 5]);
+    print_off(b"empty", quiet(Hour(24), 0), &[100u16, 0]);
+    print_off(b"overlapping", quiet(Hour(24), 0), &[100u16, 5, 104, 5]);
 }
 
 // The last day of the year; 14 for a day past it and for one of another length.
 fn print_edges() {
-    print_open(b"day up to 8784", quiet(24, 0), Hour(8760), Hour(24));
-    print_open(b"day past 8784", quiet(24, 0), Hour(8761), Hour(24));
-    print_open(b"day of 22 hours", quiet(22, 0), Hour(100), Hour(22));
+    print_open(b"day up to 8784", quiet(Hour(24), 0), Hour(8760), Hour(24));
+    print_open(b"day past 8784", quiet(Hour(24), 0), Hour(8761), Hour(24));
+    print_open(b"day of 22 hours", quiet(Hour(22), 0), Hour(100), Hour(22));
 }
 
 // The prices of two days that are alike.
