@@ -25,7 +25,7 @@ use model::Output;
 use model::STAGES;
 
 // Whether a count is from 1 to `most`.
-pub fn counted(n: usize, most: usize) -> bool
+fn counted(n: usize, most: usize) -> bool
     ensures { λ r. ⌜ r ≡ within 1 most n ⌝ }
 {
     (1 <= n) & (n <= most)

@@ -1,8 +1,7 @@
 -- What a choice looks at. Assumes nothing.
 use mathlib.Core.Path.{_≡_, sym, ap, _∙_, subst}
 use mathlib.Core.List.{List}
-use Prim.Native.Nat.{ℕ, suc, _+_, _-_, _*_, _/_, _%_, _≤_, _<_}
-use native.Mathlib.Nat.{div-add-mod'}
+use Prim.Native.Nat.{ℕ, suc, _+_, _-_, _≤_, _<_}
 use native.Mathlib.Omega.{arith}
 use lib.ListN.{length, getD, take, drop, length-take, length-drop}
 use lib.Seq.{getD-take, getD-drop}
@@ -14,19 +13,12 @@ use Rattle.machine.specs.Moves.{worth, Worths}
 use Rattle.machine.specs.Fit.{Fit, Fair}
 use Rattle.cells.specs.Table.{Sized, Row, SideCell, Layer, Ahead, cellsOf}
 use Rattle.rows.proofs.Ends.{row-to, sized-at}
-use Rattle.slots.specs.Saved.{RowAt, SavedAt, Saved}
+use Rattle.slots.specs.Saved.{RowAt, SavedAt}
 use Rattle.slots.proofs.Slots.{cells-side}
 use Rattle.locks.specs.Locked.{lockEnd}
 use Rattle.locks.proofs.LockedLaws.{lock-start}
 
 module _ (u : Unit) (day : ℕ → Terms) where
-  -- the layer of an hour that has a slot
-  pub slot-at : (l n k : ℕ) {xs : List ℤ} → k % l ≡ 0 → k < u .hours .0 → Saved u day l n 0 xs
-      → SavedAt u (worth u day k) (k / l * n) xs
-  slot-at l n k {xs} e h s =
-      let d : k / l * l ≡ k = omega (arith, div-add-mod' k l) in
-      subst (λ m. SavedAt u (worth u day m) (k / l * n) xs) d (s .at (k / l) (omega arith) (omega arith))
-
   -- the layer after the hour, where no lock goes beyond it
   pub ahead-again : Fit u → ((k : ℕ) → Fair (day k)) → (k j : ℕ) {xs ys : List ℤ} → k < u .hours .0
       → lockEnd u (suc k) (j - 1) ≤ suc k → Layer u (worth u day (suc k)) xs ys

@@ -117,6 +117,41 @@ pub fn from_again(
     from_layer(u, t, s, &row, &side, e)
 }
 
+// From the layer after hour k, looked up in its slot or made again, where no lock goes beyond it.
+pub fn from_after(
+    u: Unit,
+    charges: Charges,
+    margins: &[i64],
+    orders: &[u8],
+    t: Terms,
+    k: Hour,
+    s: State,
+    l: Hour,
+    n: usize,
+    entries: &[i64; ENTRIES],
+    work: &[i64],
+    e: HalfMills,
+) -> Pick
+    requires { ⌜ Fit u ⌝ }
+    requires { ⌜ Day u (now margins) (now orders) charges ⌝ }
+    requires { ⌜ (Fair t) × (Proper u s) × (k .0 < u .hours .0) × (Slotted u (l .0) n) ⌝ }
+    requires { ⌜ (lockEnd u (suc (k .0)) (lockOf s - 1) ≤ suc (k .0))
+        × (e .0 ≡ entry u (worth u (dayOf (now margins) (now orders) charges) (suc (k .0)))) ⌝ }
+    requires { ⌜ (Entries u (dayOf (now margins) (now orders) charges) 0 (now entries))
+        × (Saved u (dayOf (now margins) (now orders) charges) (l .0) n 0 (now work)) ⌝ }
+    ensures { λ r. ⌜ r ≡ pickOf (chosen u t (worth u (dayOf (now (margins .entry)) (now (orders .entry)) charges)
+        (suc (k .0))) s) ⌝ }
+{
+    let after = k.next();
+    let slot = slots::slot_from(after, l);
+    if after.0 < u.hours.0 {
+        if slot.hour.0 == after.0 {
+            return from_slot(u, t, s, slot.number * n, work, e);
+        }
+    }
+    from_again(u, charges, margins, orders, t, k, s, l, n, entries, work, e)
+}
+
 // The choice of hour k in any state; the kept rows are those of a lock that ends at `until`, which is that of the state
 // if it has one.
 pub fn choose(
@@ -152,11 +187,5 @@ pub fn choose(
         let at = (b.0 - after.0 - 1) as usize;
         return from_row(u, t, s, at * ROW, kept, e);
     }
-    if after.0 < u.hours.0 {
-        if after.0 % l.0 == 0 {
-            let slot = (after.0 / l.0) as usize;
-            return from_slot(u, t, s, slot * n, work, e);
-        }
-    }
-    from_again(u, charges, margins, orders, t, k, s, l, n, entries, work, e)
+    from_after(u, charges, margins, orders, t, k, s, l, n, entries, work, e)
 }

@@ -10,7 +10,7 @@ use borrow.Author.Tests.{eqb-true}
 use lib.Dec.{eqb}
 use lib.ListN.{length, getD}
 use Rattle.laws.proofs.Tests.{either}
-use Rattle.model.specs.Limits.{mostStages}
+use Rattle.model.specs.Limits.{mostStages, longs}
 use Rattle.model.specs.Forms.{mostEntries, entryLength}
 use Rattle.reader.specs.declared.forms.Form.{Form}
 use Rattle.reader.specs.declared.forms.Form.the-variants.{Old, Two}
@@ -45,18 +45,20 @@ entry-form Two (suc (suc (suc zero))) n h = absurd (omega arith)
 entry-form Two (suc (suc (suc (suc zero)))) n h = refl
 entry-form Two (suc (suc (suc (suc (suc i))))) n h = absurd (omega arith)
 
-pub entry-some : (f : Form) (i : ℕ) → i < length (tableOf f) → 0 < entryLength (tableOf f) i
-entry-some Old zero h = omega arith
-entry-some Old (suc zero) h = omega arith
-entry-some Old (suc (suc zero)) h = omega arith
-entry-some Old (suc (suc (suc zero))) h = omega arith
-entry-some Old (suc (suc (suc (suc i)))) h = absurd (omega arith)
-entry-some Two zero h = omega arith
-entry-some Two (suc zero) h = omega arith
-entry-some Two (suc (suc zero)) h = omega arith
-entry-some Two (suc (suc (suc zero))) h = omega arith
-entry-some Two (suc (suc (suc (suc zero)))) h = omega arith
-entry-some Two (suc (suc (suc (suc (suc i))))) h = absurd (omega arith)
+-- an entry has bytes, and as many as there may be can be added up
+pub entry-sizes : (f : Form) (i : ℕ) → i < length (tableOf f)
+    → (0 < entryLength (tableOf f) i) × (entryLength (tableOf f) i * getD mostEntries i 0 < longs)
+entry-sizes Old zero h = omega arith
+entry-sizes Old (suc zero) h = omega arith
+entry-sizes Old (suc (suc zero)) h = omega arith
+entry-sizes Old (suc (suc (suc zero))) h = omega arith
+entry-sizes Old (suc (suc (suc (suc i)))) h = absurd (omega arith)
+entry-sizes Two zero h = omega arith
+entry-sizes Two (suc zero) h = omega arith
+entry-sizes Two (suc (suc zero)) h = omega arith
+entry-sizes Two (suc (suc (suc zero))) h = omega arith
+entry-sizes Two (suc (suc (suc (suc zero)))) h = omega arith
+entry-sizes Two (suc (suc (suc (suc (suc i))))) h = absurd (omega arith)
 
 -- the bytes of an hour
 pub hour-some : (f : Form) → 3 ≤ entryLength (tableOf f) 3

@@ -6,7 +6,7 @@ ghost use mathlib.Core.Bool.{false};
 ghost use Prim.Native.Nat.{_+_, _*_, _-_, _≤_, _<_};
 ghost use lib.Dec.{eqb};
 ghost use lib.ListN.{length};
-ghost use Rattle.model.specs.Limits.{words};
+ghost use Rattle.model.specs.Limits.{words, longs};
 ghost use Rattle.model.specs.Symbols.{before, every};
 ghost use Rattle.model.specs.Layout.{offsetAt, lengthAt, endAt, sectionAt, formNumberAt, formOf};
 ghost use Rattle.model.specs.Refusals.{fits, refusal1, refusal2File, refusal12};
@@ -15,7 +15,6 @@ use crate::forms::Form;
 use crate::forms::entry_bytes;
 use crate::forms::most_entries;
 use crate::numbers::word;
-use limits::counted;
 use model::FORM;
 use model::OLD_SECTIONS;
 use model::PAIR_BYTES;
@@ -97,13 +96,14 @@ pub fn refusal1(file: &[u8]) -> bool
     !((offset_at(file, 0) == PAIR_BYTES * sections) & rest)
 }
 
-// Whether a section of so many bytes is 1 to `most` entries of `width` bytes.
+// Whether a section of so many bytes is 1 to `most` entries of `width` bytes; the entries of a longer one are not
+// counted.
 fn fits(bytes: usize, width: usize, most: usize) -> bool
-    requires { ⌜ 0 < width ⌝ }
+    requires { ⌜ (0 < width) × (width * most < longs) ⌝ }
     ensures { λ r. ⌜ r ≡ fits width most bytes ⌝ }
 {
-    let n = bytes / width;
-    (width * n == bytes) & counted(n, most)
+    let n = count::up_to(bytes, width, most);
+    (width * n == bytes) & (1 <= n)
 }
 
 // A section length that does not fit, of a file that has room for its pairs.

@@ -1,5 +1,6 @@
 // The sections of a case file. Each reader gets its own section, a part of the file that begins at the section's own
-// offset, and returns what it holds; entries past a count are zero (specs/Sections, model's specs/Layout).
+// offset, and returns what it holds; its entries are counted up, and those past the count are zero (specs/Sections,
+// model's specs/Layout).
 ghost use mathlib.Core.Path.{_≡_};
 ghost use mathlib.Core.Bool.{false};
 ghost use mathlib.Core.List.{[]};
@@ -43,7 +44,7 @@ fn read_trajectory(part: &[u8]) -> Trajectory
     requires { ⌜ length (now part) ≤ 2 * mostStages ⌝ }
     ensures { λ r. ⌜ r ≡ trajectoryOf (now (part .entry)) ⌝ }
 {
-    let count = part.len() / STAGE_BYTES;
+    let count = count::whole(part.len(), STAGE_BYTES);
     let mut outputs = [Output(0); STAGES];
     let mut i = 0;
     while i < count {
@@ -79,7 +80,7 @@ fn read_day(part: &[u8], form: Form) -> Day
     ensures { λ r. ⌜ r ≡ dayOf (tableOf form) (now (part .entry)) ⌝ }
 {
     let width = form.hour();
-    let count = part.len() / width;
+    let count = count::whole(part.len(), width);
     let mut prices = [Mills(0); HOURS];
     let mut orders = [0u8; HOURS];
     let mut i = 0;

@@ -2,9 +2,9 @@
 use mathlib.Core.Path.{_≡_, refl, sym, ap, _∙_, subst}
 use mathlib.Core.List.{List}
 use mathlib.Core.Logic.{_⊎_, inl, inr}
-use Prim.Native.Nat.{ℕ, suc, _+_, _-_, _*_, _/_, _%_, _≤_, _<_}
-use native.Mathlib.Nat.{eq-or-lt-of-le, div-add-mod', mod-lt, mul-mod-left, mul-div-cancel, div-lt-iff-lt-mul}
-use native.Mathlib.Nat.{mul-le-mul-right, suc-mul}
+use Prim.Native.Nat.{ℕ, suc, _+_, _-_, _*_, _/_, _≤_, _<_}
+use native.Mathlib.Nat.{eq-or-lt-of-le, div-add-mod', mod-lt, mul-div-cancel, mul-le-mul-right, suc-mul}
+use native.Mathlib.Nat.{lt-of-mul-lt-mul-right}
 use native.Mathlib.Omega.{arith}
 use lib.ListN.{length, getD}
 use lib.IntN.{ℤ, pos}
@@ -18,7 +18,7 @@ use Rattle.window.specs.Rows.{Written}
 use Rattle.window.proofs.RowLaws.{written-in}
 use Rattle.cells.specs.Table.{Side, SideCell, Layer, cellsOf}
 use Rattle.machine.specs.Lengths.{sideLength, risesAt, fallsAt}
-use Rattle.slots.specs.Saved.{SavedAt, Kept, Slotted, Saved}
+use Rattle.slots.specs.Saved.{SavedAt, Kept, Slotted, Saved, slotFrom}
 
 module _ {u : Unit} (w : Worths) where
   -- a side is its cells
@@ -88,43 +88,61 @@ saved-at-same u w off h s =
 slot-after : (a t w : ℕ) → a < t → a * w + w ≤ t * w
 slot-after a t w h = let e : suc a * w ≤ t * w = mul-le-mul-right w h in omega (arith, suc-mul a w)
 
+-- an hour has one slot
+slot-same : (l s t : ℕ) → 1 ≤ l → s * l ≡ t * l → s ≡ t
+slot-same l s t h e = sym (mul-div-cancel s h) ∙ ap (λ x. x / l) e ∙ mul-div-cancel t h
+
+-- the first slot that is not before hour k
+module _ (l k : ℕ) (some : 1 ≤ l) where
+  pub slot-from : k ≤ slotFrom l k * l
+  unfolding slotFrom
+  slot-from = omega (arith, div-add-mod' (k + l - 1) l, mod-lt (k + l - 1) some)
+
+  pub slot-near : slotFrom l k * l ≤ k + l - 1
+  unfolding slotFrom
+  slot-near = omega (arith, div-add-mod' (k + l - 1) l)
+
+  -- it is hour k's own, if that has one
+  slot-own : (t : ℕ) → k ≡ t * l → slotFrom l k * l ≡ k
+  slot-own t e =
+      let below : t * l < suc (slotFrom l k) * l = omega (arith, slot-from, suc-mul (slotFrom l k) l) in
+      let above : slotFrom l k * l < suc t * l = omega (arith, slot-near, suc-mul t l) in
+      let a : t < suc (slotFrom l k) = lt-of-mul-lt-mul-right l below in
+      let b : slotFrom l k < suc t = lt-of-mul-lt-mul-right l above in
+      let same : slotFrom l k ≡ t = omega arith in
+      ap (λ s. s * l) same ∙ sym e
+
 module _ (u : Unit) (l n : ℕ) (slots : Slotted u l n) (day : ℕ → Terms) where
   pub saved-start : {xs : List ℤ} → workLength ≤ length xs → Saved u day l n (u .hours .0) xs
   saved-start r = record { room = r; at = λ s a b. absurd (omega arith) }
 
+  -- the layer of an hour that has a slot
+  pub saved-at : (k s : ℕ) {xs : List ℤ} → s * l ≡ k → k < u .hours .0 → Saved u day l n 0 xs
+      → SavedAt u (worth u day k) (s * n) xs
+  saved-at k s {xs} e h saved =
+      subst (λ m. SavedAt u (worth u day m) (s * n) xs) e (saved .at s (omega arith) (omega arith))
+
   -- an hour that has no slot
-  pub saved-skip : (k : ℕ) {xs : List ℤ} → (k % l ≡ 0 → ⊥) → Saved u day l n (suc k) xs → Saved u day l n k xs
+  pub saved-skip : (k : ℕ) {xs : List ℤ} → (slotFrom l k * l ≡ k → ⊥) → Saved u day l n (suc k) xs
+      → Saved u day l n k xs
   saved-skip k {xs} out s = record { room = s .room; at = λ t a b. go t b (eq-or-lt-of-le a) }
     where
       go : (t : ℕ) → t * l < u .hours .0 → (k ≡ t * l) ⊎ (k < t * l) → SavedAt u (worth u day (t * l)) (t * n) xs
-      go t b (inl e) = absurd (out (ap (λ x. x % l) e ∙ mul-mod-left t l))
+      go t b (inl e) = absurd (out (slot-own l k (slots .stride-pos) t e))
       go t b (inr a) = s .at t a b
 
   -- an hour whose slot is filled
-  pub saved-step : (k : ℕ) {xs zs : List ℤ} → k % l ≡ 0 → Kept u (worth u day k) (k / l * n) xs zs
+  pub saved-step : (k s : ℕ) {xs zs : List ℤ} → s * l ≡ k → Kept u (worth u day k) (s * n) xs zs
       → Saved u day l n (suc k) xs → Saved u day l n k zs
-  saved-step k {xs} {zs} e p s =
-      record { room = omega (arith, p .long, s .room); at = λ t a b. go t b (eq-or-lt-of-le a) }
+  saved-step k s {xs} {zs} e p saved =
+      record { room = omega (arith, p .long, saved .room); at = λ t a b. go t b (eq-or-lt-of-le a) }
     where
       go : (t : ℕ) → t * l < u .hours .0 → (k ≡ t * l) ⊎ (k < t * l) → SavedAt u (worth u day (t * l)) (t * n) zs
       go t b (inl q) =
-          let d : k / l ≡ t = ap (λ x. x / l) q ∙ mul-div-cancel t (slots .stride-pos) in
           subst (λ m. SavedAt u (worth u day m) (t * n) zs) q
-          (subst (λ m. SavedAt u (worth u day k) (m * n) zs) d (p .saved))
+          (subst (λ m. SavedAt u (worth u day k) (m * n) zs) (slot-same l s t (slots .stride-pos) (e ∙ q)) (p .saved))
       go t b (inr a) =
-          let d : k / l < t = div-lt-iff-lt-mul (slots .stride-pos) .1 a in
+          let d : s < t = lt-of-mul-lt-mul-right l (omega (arith, e)) in
           saved-at-same u (worth u day (t * l)) (t * n)
-          (λ i x y. p .above i (omega (arith, slot-after (k / l) t n d, slots .width)))
-          (s .at t a b)
-
-module _ (u : Unit) (l n : ℕ) (slots : Slotted u l n) where
-  -- the slot of an hour lies within the working numbers
-  pub slot-room : (k : ℕ) → k % l ≡ 0 → k < u .hours .0 → k / l * n + n ≤ workLength
-  slot-room k e h = slots .room (k / l) (omega (arith, div-add-mod' k l))
-
-  -- the first slot that is not before hour k
-  pub slot-from : (k : ℕ) → k ≤ (k + l - 1) / l * l
-  slot-from k = omega (arith, slots .stride-pos, div-add-mod' (k + l - 1) l, mod-lt (k + l - 1) (slots .stride-pos))
-
-  pub slot-small : (k : ℕ) → (k + l - 1) / l * l ≤ k + l - 1
-  slot-small k = omega (arith, div-add-mod' (k + l - 1) l)
+          (λ i x y. p .above i (omega (arith, slot-after s t n d, slots .width)))
+          (saved .at t a b)

@@ -1,7 +1,7 @@
 -- Layers kept in lent numbers. Definitions only. Assumes nothing.
 use mathlib.Core.Path.{_≡_}
 use mathlib.Core.List.{List}
-use Prim.Native.Nat.{ℕ, _+_, _*_, _≤_, _<_}
+use Prim.Native.Nat.{ℕ, _+_, _*_, _-_, _/_, _≤_, _<_}
 use lib.ListN.{getD, length}
 use lib.IntN.{ℤ, pos}
 use Rattle.model.specs.Limits.{workLength}
@@ -34,6 +34,10 @@ pub record Slotted (u : Unit) (l n : ℕ) : Type 0 where
   pub stride-le : l ≤ u .hours .0
   pub width : n ≡ cellsOf u + sideLength
   pub room : (s : ℕ) → s * l < u .hours .0 → s * n + n ≤ workLength
+
+-- the first slot whose hour is not before hour k, where every l-th hour has one
+unfoldable pub slotFrom : ℕ → ℕ → ℕ
+slotFrom l k = (k + l - 1) / l
 
 -- every l-th layer from hour a on, each in its slot
 pub record Saved (u : Unit) (day : ℕ → Terms) (l n a : ℕ) (xs : List ℤ) : Type 0 where

@@ -11,17 +11,17 @@ use machine::Unit;
 use model::Hour;
 use model::WORK;
 ghost use mathlib.Core.Path.{_≡_};
-ghost use Prim.Native.Nat.{ℕ, suc, _+_, _≤_, _<_};
+ghost use Prim.Native.Nat.{ℕ, suc, _+_, _*_, _≤_, _<_};
 ghost use lib.ListN.{length, getD};
 ghost use lib.IntN.{pos};
 ghost use Rattle.laws.specs.Placed.{Part};
-ghost use Rattle.model.specs.Limits.{workLength};
+ghost use Rattle.model.specs.Limits.{workLength, words};
 ghost use Rattle.machine.specs.Fit.{Fit};
 ghost use Rattle.machine.specs.Moves.{dayOf, worth, Worths};
 ghost use Rattle.window.specs.Rows.{Written};
 ghost use Rattle.cells.specs.Table.{Entries, Layer, Day, cellsOf};
 ghost use Rattle.machine.specs.Lengths.{sideLength};
-ghost use Rattle.slots.specs.Saved.{SavedAt, Kept, Slotted, Saved, Based};
+ghost use Rattle.slots.specs.Saved.{SavedAt, Kept, Slotted, Saved, Based, slotFrom};
 
 // The numbers of a slot, and how many layers from one that is kept to the next: as few as there is room for.
 pub fn width_of(u: Unit) -> usize
@@ -36,9 +36,27 @@ pub fn stride_of(u: Unit, n: usize) -> Hour
     requires { ⌜ n ≡ cellsOf u + sideLength ⌝ }
     ensures { λ r. ⌜ Slotted u (r .0) n ⌝ }
 {
-    let m = WORK / n;
     let hours = u.hours.0 as usize;
-    Hour(((hours + m - 1) / m) as u16)
+    let m = count::up_to(WORK, n, hours);
+    Hour(count::whole(hours + m - 1, m) as u16)
+}
+
+// A slot, by its number from 0, and the hour whose layer it has.
+pub struct Slot {
+    pub number: usize,
+    pub hour: Hour,
+}
+
+// The first slot whose hour is not before hour k.
+pub fn slot_from(k: Hour, l: Hour) -> Slot
+    requires { ⌜ (1 ≤ l .0) × (k .0 + l .0 < words) ⌝ }
+    ensures { λ r. ⌜ (r .number ≡ slotFrom (l .0) (k .0)) × (r .hour .0 ≡ r .number * l .0) ⌝ }
+{
+    let number = count::whole((k.0 + l.0 - 1) as usize, l.0 as usize);
+    Slot {
+        number,
+        hour: Hour(number as u16 * l.0),
+    }
 }
 
 // The first n of `from` into the working numbers, from `off` on.
@@ -111,10 +129,9 @@ pub fn save_if(
     ensures { λ _. ⌜ ((day : ℕ → Terms) → Layer u (worth u day (k .0)) (now (row .entry)) (now (side .entry))
         → Saved u day (l .0) n (suc (k .0)) (now (work .entry)) → Saved u day (l .0) n (k .0) (now (work .exit))) ⌝ }
 {
-    let at = k.0;
-    let stride = l.0;
-    if at % stride == 0 {
-        save_layer(u, (at / stride) as usize * n, row, side, work);
+    let slot = slot_from(k, l);
+    if slot.hour.0 == k.0 {
+        save_layer(u, slot.number * n, row, side, work);
     }
 }
 
@@ -134,12 +151,10 @@ pub fn base_layer(
     ensures { λ h. ⌜ ((day : ℕ → Terms) → Saved u day (l .0) n 0 (now (work .entry))
         → Based u day (k .0) (h .0) (now (row .exit)) (now (side .exit))) ⌝ }
 {
-    let stride = l.0;
-    let slot = (k.0 + stride - 1) / stride;
-    let b = Hour(slot * stride);
-    if b.0 < u.hours.0 {
-        load_layer(u, slot as usize * n, work, row, side);
-        return b;
+    let slot = slot_from(k, l);
+    if slot.hour.0 < u.hours.0 {
+        load_layer(u, slot.number * n, work, row, side);
+        return slot.hour;
     }
     rows::end_row(u, row);
     sides::end_side(u, side);

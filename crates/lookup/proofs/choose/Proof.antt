@@ -2,9 +2,8 @@
 use borrow.Author.Needs.{needs}
 use native.Mathlib.Omega.{arith}
 use native.Mathlib.Numerals.{add-one}
-use native.Mathlib.Nat.{div-le-self}
 use mathlib.Core.Path.{_≡_, sym, ap, _∙_, subst}
-use Prim.Native.Nat.{ℕ, suc, _-_, _*_, _/_, _<_}
+use Prim.Native.Nat.{ℕ, suc, _-_, _*_, _<_}
 use lib.ListN.{getD}
 use lib.IntN.{pos}
 use Rattle.machine.specs.Lengths.{rowLength}
@@ -14,10 +13,8 @@ use Rattle.machine.specs.Moves.{dayOf, machine, worth, chosen}
 use Rattle.machine.proofs.Table.Choices.{choice-chosen}
 use Rattle.cells.specs.Picks.{pickOf}
 use Rattle.cells.specs.Table.{entry, lockOf}
-use Rattle.slots.specs.Saved.{RowAt, SavedAt}
-use Rattle.slots.proofs.Slots.{slot-room}
+use Rattle.slots.specs.Saved.{RowAt}
 use Rattle.rows.proofs.Ends.{sized-at}
-use Rattle.lookup.proofs.AheadLaws.{slot-at}
 use Rattle.locks.proofs.LockedLaws.{lock-small}
 use Rattle.lookup.proofs.choose.Statement.{statement}
 use Rattle.lookup.proofs.choose.Tie as tie
@@ -139,93 +136,9 @@ returns c =
     (entered v)
     ∙ told v
 
-rem-if3 : tie.Need-rem-if3
-rem-if3 c =
-    let s = c .before .before .before .before .before .before .before .before .before .before .before .before .before
-    .before .before in
-    omega (arith, s .pre .1 .1 .0 .1 .stride-pos)
-
-div-slot : tie.Need-div-slot
-div-slot c =
-    let s = c .before .before .before .before .before .before .before .before .before .before .before .before .before
-    .before .before .before .before .before in
-    omega (arith, s .pre .1 .1 .0 .1 .stride-pos)
-
-cast-slot : tie.Need-cast-slot
-cast-slot c =
-    let v = c .before .before .before .before .before .before .before .before .before .before .before in
-    let s = start v in
-    omega (
-      arith,
-      div-le-self (moved v .next .result .0) (s .args .l .0),
-      after v,
-      s .pre .1 .1 .0 .0,
-      s .pre .0 .hours-le,
-    )
-
-mul-from-slot : tie.Need-mul-from-slot
-mul-from-slot c =
-    let next = c .before .before .before .before .before .before .before .before .before .before .before .before .before
-    .before .before .before .next in
-    let if2 = c .before .before .before .before .before .if2 in
-    let s = c .before .before .before .before .before .before .before .before .before .before .before .before .before
-    .before .before .before .before .before in
-    let a = s .args in
-    omega (
-      arith,
-      slot-room (a .u) (a .l .0) (a .n) (s .pre .1 .1 .0 .1) (next .result .0)
-          (c .before .before .if3 .taken) (if2 .taken),
-    )
-
-from-slot-requires : tie.Need-from-slot-requires
-from-slot-requires c κs =
-    let if2 = c .before .before .before .before .before .if2 in
-    let if1 = c .before .before .before .before .before .before .before .before .if1 in
-    let n = c .before .before .before .before .before .before .before .before .before .before .before .before .before
-    .before .before .before .next .result .0 in
-    let v = c .before .before .before .before .before .before .before .before .before .before .before in
-    let s = start v in
-    let a = s .args in
-    let q = s .pre .1 .1 in
-    let room = slot-room (a .u) (a .l .0) (a .n) (q .0 .1) n (c .before .before .if3 .taken) (if2 .taken) in (
-      s .pre .0,
-      (
-        rw (v .before .terms-at .ensures) (s .pre .1 .0 .fair _),
-        (
-          (
-            q .0 .2,
-            omega (arith, after v, v .end-of .ensures, if1 .left, if2 .taken),
-            omega (arith, room, q .1 .0 .1 .room, q .0 .1 .width),
-          ),
-          (
-            worth (a .u) (day v) (suc (a .k .0)),
-            sized-at (a .u) (day v) (s .pre .0) (s .pre .1 .0 .fair) _,
-            subst (λ (m : ℕ). SavedAt (a .u) (worth (a .u) (day v) m) (n / a .l .0 * a .n) (a .work .now)) (after v)
-                (slot-at (a .u) (day v) (a .l .0) (a .n) n (c .before .before .if3 .taken) (if2 .taken) (q .1 .0 .1)),
-            entered v,
-          ),
-        ),
-      ),
-    )
-
-returns-2 : tie.Need-returns-2
-returns-2 c =
-    let if2 = c .before .before .before .before .before .before .if2 in
-    let n = c .before .before .before .before .before .before .before .before .before .before .before .before .before
-    .before .before .before .before .next .result .0 in
-    let v = c .before .before .before .before .before .before .before .before .before .before .before .before in
-    let s = start v in
-    let a = s .args in
-    let saved = slot-at (a .u) (day v) (a .l .0) (a .n) n (c .before .before .before .if3 .taken) (if2 .taken)
-    (s .pre .1 .1 .1 .0 .1) in
-    c .from-slot .ensures _ (sized-at (a .u) (day v) (s .pre .0) (s .pre .1 .0 .fair) _)
-    (subst (λ (m : ℕ). SavedAt (a .u) (worth (a .u) (day v) m) (n / a .l .0 * a .n) (a .work .now)) (after v) saved)
-    (entered v)
-    ∙ told v
-
-from-again-requires : tie.Need-from-again-requires
-from-again-requires c κs =
-    let v = c .before .before .before .before .before .before in
+from-after-requires : tie.Need-from-after-requires
+from-after-requires c κs =
+    let v = c .before .before .before in
     let s = start v in
     let q = s .pre .1 .1 in (
       s .pre .0,
@@ -233,18 +146,15 @@ from-again-requires c κs =
         s .pre .1 .0,
         (
           (rw (v .before .terms-at .ensures) (s .pre .1 .0 .fair _), q .0 .2, q .0 .0, q .0 .1),
-          ((omega (arith, after v, v .end-of .ensures, c .before .before .before .if1 .left), entered v), q .1 .0),
+          ((omega (arith, after v, v .end-of .ensures, c .if1 .left), entered v), q .1 .0),
         ),
       ),
     )
 
-returns-3 : tie.Need-returns-3
-returns-3 c =
-    let v = c .before .before .before .before .before .before .before in
-    c .from-again .ensures ∙ told v
+returns-2 : tie.Need-returns-2
+returns-2 c = c .from-after .ensures ∙ told (c .before .before .before .before)
 
 pub choose-spec : {M : Type 1} → statement M
 choose-spec =
     tie.close (tie.spec next-requires cast-value-at value-at-requires terms-at-requires end-of-requires sub-at sub-at-2
-    cast-at mul-from-row from-row-requires returns rem-if3 div-slot cast-slot mul-from-slot from-slot-requires returns-2
-    from-again-requires returns-3)
+    cast-at mul-from-row from-row-requires returns from-after-requires returns-2)

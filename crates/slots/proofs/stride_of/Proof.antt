@@ -1,36 +1,49 @@
 -- `slots::stride_of` meets its contract. Assumes nothing.
+use mathlib.Core.Path.{sym, ap, _∙_, subst}
 use borrow.Author.Needs.{needs}
+use native.Mathlib.Nat.{mul-le-mul-left}
 use native.Mathlib.Omega.{arith}
-use Prim.Native.Nat.{_-_}
-use native.Mathlib.Nat.{div-le-self}
-use Rattle.model.specs.Limits.{workLength}
+use Prim.Native.Nat.{_+_, _-_, _/_}
+use Rattle.slots.specs.Saved.{Slotted}
 use Rattle.slots.proofs.Strides.{slots-pos, slotted-of}
 use Rattle.slots.proofs.stride_of.Statement.{statement}
 use Rattle.slots.proofs.stride_of.Tie as tie
 
-div-m : tie.Need-div-m
-div-m c = omega (arith, c .pre .1)
-
 cast-hours : tie.Need-cast-hours
 cast-hours c = search needs
 
-add-t5 : tie.Need-add-t5
-add-t5 c = let s = c .before in omega (arith, s .pre .0 .hours-le, div-le-self workLength (s .args .n))
+up-to-requires : tie.Need-up-to-requires
+up-to-requires c κs =
+    let s = c .before in
+    let f = s .pre .0 in
+    let day = mul-le-mul-left (s .args .n) (f .hours-le) in
+    (omega (arith, s .pre .1), omega (arith, day, s .pre .1, f .capacity-le, f .minimum-pos))
 
-sub-t6 : tie.Need-sub-t6
-sub-t6 c = omega (arith, c .before .pre .0 .hours-pos)
+add-whole : tie.Need-add-whole
+add-whole c = omega (arith, c .up-to .ensures, c .before .before .pre .0 .hours-le)
 
-div-t7 : tie.Need-div-t7
-div-t7 c = let s = c .before in omega (arith, slots-pos (s .args .u) (s .pre .0) (s .args .n) (s .pre .1))
+sub-whole : tie.Need-sub-whole
+sub-whole c = omega (arith, c .before .before .pre .0 .hours-pos)
+
+whole-requires : tie.Need-whole-requires
+whole-requires c κs =
+    let s = c .before .before in
+    omega (arith, c .up-to .ensures, slots-pos (s .args .u) (s .pre .0) (s .args .n) (s .pre .1))
+
+-- the stride, by the slots that were counted
+slotted : (c : tie.After-whole)
+    → Slotted (c .before .before .before .args .u) (c .whole .result) (c .before .before .before .args .n)
+slotted c =
+    let s = c .before .before .before in
+    let u = s .args .u in
+    let stride = c .whole .ensures ∙ ap (λ m. (u .hours .0 + m - 1) / m) (c .before .up-to .ensures) in
+    subst (λ l. Slotted u l (s .args .n)) (sym stride) (slotted-of u (s .pre .0) (s .args .n) (s .pre .1))
 
 cast-t8 : tie.Need-cast-t8
-cast-t8 c =
-    let s = c .before in
-    let fits = slotted-of (s .args .u) (s .pre .0) (s .args .n) (s .pre .1) .stride-le in
-    omega (arith, fits, s .pre .0 .hours-le)
+cast-t8 c = omega (arith, slotted c .stride-le, c .before .before .before .pre .0 .hours-le)
 
 returns : tie.Need-returns
-returns c = let s = c .before in slotted-of (s .args .u) (s .pre .0) (s .args .n) (s .pre .1)
+returns c = slotted c
 
 pub stride-of-spec : {M : Type 1} → statement M
-stride-of-spec = tie.close (tie.spec div-m cast-hours add-t5 sub-t6 div-t7 cast-t8 returns)
+stride-of-spec = tie.close (tie.spec cast-hours up-to-requires add-whole sub-whole whole-requires cast-t8 returns)

@@ -13,7 +13,7 @@ use Rattle.model.proofs.RefusalsLaws.{every-none, every-more}
 use Rattle.model.proofs.FormsLaws.{four-sections, known}
 use Rattle.model.proofs.AcceptedLaws.{linked}
 use Rattle.reader.specs.Tables.{tableOf}
-use Rattle.reader.proofs.TablesLaws.{sections-five, entry-some}
+use Rattle.reader.proofs.TablesLaws.{sections-five, entry-sizes}
 use Rattle.reader.proofs.pairs.refusal2_file.Statement.{statement}
 use Rattle.reader.proofs.pairs.refusal2_file.Tie as tie
 
@@ -54,11 +54,9 @@ fits-requires c κs =
     let loop = c .before .before .before .before in
     let call = loop .before in
     let form = call .before .form-of .result in
-    omega (
-      arith,
-      c .before .entry-bytes .ensures,
-      entry-some form (loop .loop .i) (omega (arith, call .sections .ensures)),
-    )
+    let bytes = c .before .entry-bytes .ensures in
+    let sizes = entry-sizes form (loop .loop .i) (omega (arith, call .sections .ensures)) in
+    (omega (arith, bytes, sizes .0), rw (bytes, c .most-entries .ensures) (sizes .1))
 
 add-i : tie.Need-add-i Inv-loop μ-loop
 add-i c = omega arith

@@ -25,7 +25,7 @@ Inv-loop part form width count prices₀ orders₀ i₀ prices orders i =
 abbrev μ-loop : tie.MeasureT-loop
 μ-loop part form width count prices₀ orders₀ i₀ prices orders i = count - i
 
--- the bytes of an hour, and how many hours the section has
+-- the bytes of an hour
 module _ (c : tie.After-hour Inv-loop μ-loop) where
   abbrev part : List ℕ
   part = c .before .before .args .part .now
@@ -39,14 +39,27 @@ module _ (c : tie.After-hour Inv-loop μ-loop) where
   some : 0 < size
   some = omega (arith, c .hour .ensures, hour-some form)
 
-  few : length part / size ≤ mostHours
-  few = entries-le size (length part) mostHours some (omega (arith, c .hour .ensures, c .before .before .pre))
+  short : length part ≤ size * mostHours
+  short = omega (arith, c .hour .ensures, c .before .before .pre)
 
-  room : (i : ℕ) → i < length part / size → size * i + entryLength (tableOf form) 3 ≤ length part
-  room i h = omega (arith, entry-room size (length part) i h, c .hour .ensures)
+whole-requires : tie.Need-whole-requires Inv-loop μ-loop
+whole-requires c κs = some c
 
-div-count : tie.Need-div-count Inv-loop μ-loop
-div-count c = some c
+-- how many hours the section has
+module _ (c : tie.After-whole Inv-loop μ-loop) where
+  abbrev hours : ℕ
+  hours = c .whole .result
+
+  few : hours ≤ mostHours
+  few =
+      let h = c .before in
+      omega (arith, c .whole .ensures, entries-le (size h) (length (part h)) mostHours (some h) (short h))
+
+  room : (i : ℕ) → i < hours
+      → size (c .before) * i + entryLength (tableOf (form (c .before))) 3 ≤ length (part (c .before))
+  room i l =
+      let h = c .before in
+      omega (arith, entry-room (size h) (length (part h)) i (omega (arith, c .whole .ensures)), h .hour .ensures)
 
 loop-holds : tie.Need-loop-holds Inv-loop μ-loop
 loop-holds c = (filled-start noMills _ _ mostHours, filled-start 0 _ _ mostHours)
@@ -83,28 +96,29 @@ loop-again c =
     let price = c .before in
     let test = price .before in
     let l = test .before .loop in
-    let h = test .before .before in
+    let w = test .before .before in
+    let h = w .before in
     let table = tableOf (form h) in
-    let n = length (part h) / size h in
     let at : size h * l .i ≡ entryLength table 3 * l .i = ap (λ k. k * l .i) (h .hour .ensures) in
     let paid = price .price-at .ensures ∙ ap (λ k. signed (fieldAt (getD table 3 []) (part h) k 0)) at in (
-      filled-step noMills (priceAt table (part h)) n mostHours (price .price-at .result) (l .inv .0)
-          (test .loop-test .taken) (few h) (λ j. record { 0 = paid j }),
-      filled-step 0 (orderAt table (part h)) n mostHours (c .order-at .result) (l .inv .1) (test .loop-test .taken)
-          (few h) (c .order-at .ensures ∙ ap (λ k. fieldAt (getD table 3 []) (part h) k 1) at),
+      filled-step noMills (priceAt table (part h)) (hours w) mostHours (price .price-at .result) (l .inv .0)
+          (test .loop-test .taken) (few w) (λ j. record { 0 = paid j }),
+      filled-step 0 (orderAt table (part h)) (hours w) mostHours (c .order-at .result) (l .inv .1)
+          (test .loop-test .taken) (few w)
+          (c .order-at .ensures ∙ ap (λ k. fieldAt (getD table 3 []) (part h) k 1) at),
     )
 
 returns : tie.Need-returns Inv-loop μ-loop
 unfolding dayOf
 returns c =
     let l = c .before .loop in
-    let h = c .before .before in
+    let w = c .before .before in
+    let h = w .before in
     let table = tableOf (form h) in
-    let n = length (part h) / size h in
-    let count : n ≡ length (part h) / entryLength table 3 = ap (λ k. length (part h) / k) (h .hour .ensures) in
-    let p = filled-end noMills (priceAt table (part h)) n mostHours (l .inv .0) (c .loop-test .left)
+    let count = w .whole .ensures ∙ ap (λ k. length (part h) / k) (h .hour .ensures) in
+    let p = filled-end noMills (priceAt table (part h)) (hours w) mostHours (l .inv .0) (c .loop-test .left)
     ∙ ap (λ k. padded noMills (priceAt table (part h)) k mostHours) count in
-    let o = filled-end 0 (orderAt table (part h)) n mostHours (l .inv .1) (c .loop-test .left)
+    let o = filled-end 0 (orderAt table (part h)) (hours w) mostHours (l .inv .1) (c .loop-test .left)
     ∙ ap (λ k. padded 0 (orderAt table (part h)) k mostHours) count in
     λ j. record { prices = p j; orders = o j; count = count j }
 
@@ -115,7 +129,7 @@ read-day-spec =
     Inv-loop
     μ-loop
     (λ c κs. search needs)
-    div-count
+    whole-requires
     loop-holds
     mul-price-at
     price-at-requires
