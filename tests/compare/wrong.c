@@ -41,6 +41,13 @@ static unsigned head(const uint8_t *file, size_t i)
     return file[2 * i] + 256u * file[2 * i + 1];
 }
 
+/* Changes number i of the head. */
+static void set_head(uint8_t *file, size_t i, size_t number)
+{
+    file[2 * i] = (uint8_t)number;
+    file[2 * i + 1] = (uint8_t)(number >> 8);
+}
+
 /* What a refused reading gives. */
 static struct giqapsun_reading refused(uint32_t number)
 {
@@ -87,9 +94,43 @@ static struct giqapsun_reading read_wrong_sign(const uint8_t *file, struct giqap
     return right;
 }
 
+/* The bytes of an hours section, with hours of `size` bytes, that are taken where the hours are counted wrong. */
+static size_t counted(size_t bytes, size_t size)
+{
+    if (wrong("partial"))
+        return bytes - bytes % size;
+    if (bytes % size != 0 || bytes == 0)
+        return bytes;
+    if (wrong("capped") && bytes > GIQAPSUN_HOURS * size)
+        return GIQAPSUN_HOURS * size;
+    if (wrong("exact"))
+        return bytes - size;
+    if (wrong("byte"))
+        return bytes / size % 256 * size;
+    return bytes;
+}
+
+/* Reading of a file whose pairs are in order, as if it had only the hours that are counted. */
+static struct giqapsun_reading read_wrong_count(const uint8_t *file, size_t n, struct giqapsun_reading right)
+{
+    uint8_t copy[GIQAPSUN_FILE_MOST];
+    size_t begin = head(file, 6), bytes = head(file, 7), after = n - begin - bytes;
+    size_t taken = counted(bytes, head(file, 0) == 20 ? 5 : 3), end = begin + taken;
+    if (taken == bytes || end + after > sizeof copy)
+        return right;
+    memcpy(copy, file, end);
+    memcpy(copy + end, file + n - after, after);
+    set_head(copy, 7, taken);
+    if (head(file, 0) == 20)
+        set_head(copy, 8, end);
+    return right_read(copy, end + after);
+}
+
 struct giqapsun_reading giqapsun_read(const uint8_t *file, size_t n)
 {
     struct giqapsun_reading reading = right_read(file, n);
+    if (reading.number != 1)
+        reading = read_wrong_count(file, n, reading);
     if (wrong("stack") && reading.number == 0)
         reading.number = deeper(UINT32_MAX);
     return reading.number == 0 ? read_wrong_sign(file, reading) : read_wrong_form(file, n, reading);

@@ -1,9 +1,9 @@
-//! Random files of both forms, most of them damaged: bits, lengths, sections, pairs, forms and limits.
+//! Random files of both forms, most of them damaged: bits, lengths, sections, pairs, forms, limits and counts of hours.
 
-use crate::case::Case;
+use crate::case::{Case, MOST_HOURS};
 use crate::file::{assemble, assemble_with_gap, old_sections, sections};
 use crate::random::Rng;
-use crate::refusals::PAIR_BYTES;
+use crate::refusals::{HOUR_BYTES, OLD_HOUR_BYTES, PAIR_BYTES};
 use crate::units::{full_day, longer_day, set_old_prices, small_unit};
 use crate::wild::set_near_limit;
 
@@ -20,9 +20,10 @@ pub fn damaged_file(rng: &mut Rng) -> Vec<u8> {
     if old {
         set_old_prices(&mut case);
     }
-    match rng.below(6) {
+    match rng.below(7) {
         0 | 1 => beyond_a_limit(rng, case, old),
         2 => of_another_form(rng, &case, old),
+        3 => of_other_hours(rng, &case, old),
         _ => {
             let mut parts = sections_of(&case, old);
             if rng.once_in(3) {
@@ -65,6 +66,31 @@ fn beyond_a_limit(rng: &mut Rng, mut case: Case, old: bool) -> Vec<u8> {
         parts[4] = rng.pick(&FORM_NUMBERS).to_le_bytes().to_vec();
     }
     assemble(&parts)
+}
+
+/// A whole file of the hours of a case over and over, in a section of which a count may be wrong.
+fn of_other_hours(rng: &mut Rng, case: &Case, old: bool) -> Vec<u8> {
+    let mut parts = sections_of(case, old);
+    let before: usize = parts[..3].iter().map(Vec::len).sum();
+    let room = 65_535 - PAIR_BYTES * parts.len() - before;
+    let length = length_to_count(rng, if old { OLD_HOUR_BYTES } else { HOUR_BYTES }, room);
+    parts[3] = parts[3].iter().copied().cycle().take(length).collect();
+    assemble(&parts)
+}
+
+/// The longest hours section, a byte or an hour beside it, hours that are 1 to 48 in 8 bits, the most bytes that a pair
+/// can name, and the most whole hours in a room.
+fn length_to_count(rng: &mut Rng, size: usize, room: usize) -> usize {
+    let longest = MOST_HOURS * size;
+    match rng.below(7) {
+        0 => longest,
+        1 => longest - 1,
+        2 => longest + 1,
+        3 => longest + size,
+        4 => (256 + rng.place(1, MOST_HOURS)) * size,
+        5 => 65_535,
+        _ => room - room % size,
+    }
 }
 
 /// What one form has, under the pairs of the other; other first offsets; form sections and form numbers.

@@ -1,5 +1,5 @@
-//! Files of both forms with the answer of reading, worked out by hand (scope, "Case file" and "Refusal list"; request
-//! F-2). All are made from two: case 7 of the known days in the old form and in form 2, byte by byte.
+//! Files of both forms with the answer of reading, worked out by hand (scope, "Case file" and "Refusal list"; requests
+//! F-2 and F-4). All are made from two: case 7 of the known days in the old form and in form 2, byte by byte.
 
 use crate::case::Case;
 use crate::days::{known_unit, program_example};
@@ -39,7 +39,7 @@ pub const NEW: [u8; 77] = [
 ];
 
 /// How many files there are.
-pub const COUNT: u64 = 244;
+pub const COUNT: u64 = 282;
 
 /// Places in the old file and in the new one: capacity, F, A, B, C; the price and the order of hour 2; the form number.
 const OLD_COSTS: [usize; 4] = [28, 32, 36, 40];
@@ -57,8 +57,19 @@ const BELOW: [u8; 4] = [0x7f, 0x69, 0x67, 0xff];
 
 /// All files, by what is tested.
 pub fn known_files() -> Vec<KnownFile> {
-    [accepted(), short(), first_offsets(), chains(), lengths(), old_lengths(), forms(), limits(), prices()]
-        .concat()
+    [
+        accepted(),
+        short(),
+        first_offsets(),
+        chains(),
+        lengths(),
+        old_lengths(),
+        forms(),
+        limits(),
+        prices(),
+        hour_counts(),
+    ]
+    .concat()
 }
 
 /// A file with the record of case 7 at these prices.
@@ -125,14 +136,6 @@ fn accepted() -> Vec<KnownFile> {
     }
     for (bytes, price) in unsigned {
         files.push(read(format!("old, price {price}"), with(&OLD, OLD_PRICE_2, &bytes), &[5, price, 5]));
-    }
-    for hours in [1, 2, 47, 48] {
-        let [unit, start_up, shut_down, _, form] = new_sections();
-        let day = [5, 0, 0, 0, 0].repeat(hours);
-        let file = assemble(&[unit.clone(), start_up.clone(), shut_down.clone(), day, form]);
-        files.push(read(format!("form 2, {hours} hours"), file, &vec![5; hours]));
-        let file = assemble(&[unit, start_up, shut_down, [5, 0, 0].repeat(hours)]);
-        files.push(read(format!("old, {hours} hours"), file, &vec![5; hours]));
     }
     files
 }
@@ -233,7 +236,7 @@ fn lengths() -> Vec<KnownFile> {
         ("unit", 0, &[0, 30, 31, 33, 34, 64]),
         ("start-up", 1, &[0, 1, 3, 17, 18]),
         ("shut-down", 2, &[0, 1, 3, 17, 18]),
-        ("hours", 3, &[0, 1, 3, 4, 9, 14, 16, 18, 241, 245]),
+        ("hours", 3, &[0, 1, 3, 9, 14, 16, 18]),
         ("form", 4, &[0, 1, 3, 4, 258]),
     ];
     let mut files = Vec::new();
@@ -260,7 +263,7 @@ fn old_lengths() -> Vec<KnownFile> {
         ("unit", 0, &[30, 34]),
         ("start-up", 1, &[0, 3, 18]),
         ("shut-down", 2, &[0, 3, 18]),
-        ("hours", 3, &[0, 1, 4, 5, 10, 146, 147]),
+        ("hours", 3, &[0, 1, 5, 10]),
     ];
     let mut files = Vec::new();
     for (name, section, lengths) in wrong {
@@ -322,5 +325,61 @@ fn prices() -> Vec<KnownFile> {
     files.push(refused("price 10,000,001, order 3", with(&above, ORDER_2, &[3]), 8));
     files.push(refused("price 10,000,001, F 2^31", with(&above, COSTS[0] + 3, &[0x80]), 5));
     files.push(refused("price 10,000,001, capacity 401", with(&above, CAPACITY, &[0x91, 0x01]), 3));
+    files
+}
+
+/// Case 7 in the old form with the first bytes of a day whose hour k is at k mills.
+fn old_day(bytes: usize) -> Vec<u8> {
+    let entry = |k: u16| {
+        let [low, high] = k.to_le_bytes();
+        [low, high, 0]
+    };
+    let mut sections = old_sections();
+    sections[3] = (1..).flat_map(entry).take(bytes).collect();
+    assemble(&sections)
+}
+
+/// Case 7 under five pairs with this form number and the first bytes of a day whose hour k is at -k mills.
+fn new_day(form: u8, bytes: usize) -> Vec<u8> {
+    let entry = |k: i32| {
+        let [low, second, third, high] = (-k).to_le_bytes();
+        [low, second, third, high, 0]
+    };
+    let mut sections = new_sections();
+    sections[3] = (1..).flat_map(entry).take(bytes).collect();
+    sections[4][0] = form;
+    assemble(&sections)
+}
+
+/// Hours sections that may be counted wrong; each hour has a price of its own, so that one lost or taken twice shows.
+/// Of 1 to 48 whole hours they are read: 3 to 144 bytes in the old form, 5 to 240 in form 2. Any other length is 2: a
+/// byte short of one hour or past it; a byte or two short of 48 hours or past them; 49 hours; 257, 280 and 304 hours,
+/// which are 1, 24 and 48 in 8 bits.
+///
+/// An old file ends at 56 + bytes, and 65,478 to 65,480 bytes make it 65,534 to 65,536 long. 65,535 bytes, the most
+/// that a pair can name, are 21,845 hours, and 65,534 are a byte short of them. All of these are 2. A file of form 2
+/// ends at 62 + bytes, and 65,472 to 65,474 make it as long. Its fifth offset is 60 + bytes: 65,535 after 65,475 bytes,
+/// which are 13,095 hours and so 2. After a byte more, and after 65,535 bytes, which are 13,107 hours, that offset does
+/// not fit in 16 bits: 1. Form number 3 changes nothing, since 12 comes after 1 and 2.
+fn hour_counts() -> Vec<KnownFile> {
+    let old_bytes = [2, 4, 142, 143, 145, 146, 147, 771, 840, 912, 65_478, 65_479, 65_480, 65_534, 65_535];
+    let new_bytes = [4, 6, 238, 239, 241, 242, 245, 1_285, 1_400, 1_520, 65_472, 65_473, 65_474, 65_475];
+    let mut files = Vec::new();
+    for hours in [1, 2, 47, 48] {
+        let day: Vec<i32> = (1..=hours).collect();
+        let below_zero: Vec<i32> = day.iter().map(|price| -price).collect();
+        files.push(read(format!("old, {hours} hours"), old_day(3 * day.len()), &day));
+        files.push(read(format!("form 2, {hours} hours"), new_day(2, 5 * day.len()), &below_zero));
+    }
+    for bytes in old_bytes {
+        files.push(refused(format!("old, hours of {bytes} bytes"), old_day(bytes), 2));
+    }
+    for form in [2, 3] {
+        let named = |bytes: usize, number: u32| {
+            refused(format!("form number {form}, hours of {bytes} bytes"), new_day(form, bytes), number)
+        };
+        files.extend(new_bytes.map(|bytes| named(bytes, 2)));
+        files.extend([65_476, 65_535].map(|bytes| named(bytes, 1)));
+    }
     files
 }

@@ -66,7 +66,7 @@ pub const GROUPS: [Group; 19] = [
     group("both-forms", 5_000, both_forms, "a case in the old form and in form 2"),
     group(
         "damaged-files",
-        40_000,
+        47_000,
         damaged_files,
         "files of both forms with a fault, and those still accepted",
     )

@@ -1,4 +1,5 @@
-//! The kinds of files of both forms (request F-2): which test refuses a file, and what a file holds that is read.
+//! The kinds of files of both forms (request F-2): which test refuses a file, and what a file holds that is read; and
+//! of hours sections to count (request F-4).
 
 use super::{kind, Kind};
 use oracle::case::Case;
@@ -23,7 +24,7 @@ const HOURS: usize = 3;
 const FORM: usize = 4;
 
 /// All kinds.
-pub const KINDS: [Kind<Met>; 80] = [
+pub const KINDS: [Kind<Met>; 93] = [
     kind("old form read", |met| met.is_read(4)),
     kind("form 2 read", |met| met.is_read(5)),
     kind("old price above 32,767", |met| met.is_read(4) && met.some_price(|price| price > 32_767)),
@@ -106,6 +107,19 @@ pub const KINDS: [Kind<Met>; 80] = [
     kind("old prices in form 2", |met| {
         met.is_read(5) && !met.some_price(|price| !OLD_PRICES.contains(&price))
     }),
+    kind("48 hours of the old form", |met| met.is_read(4) && met.hours() == 48),
+    kind("old hours section of 143 bytes", |met| met.hours_section_of(4, 143)),
+    kind("old hours section of 145 bytes", |met| met.hours_section_of(4, 145)),
+    kind("old hours section of 147 bytes", |met| met.hours_section_of(4, 147)),
+    kind("257 to 304 old hours", |met| met.has_256_hours_more(4)),
+    kind("old hours section of 65,535 bytes", |met| met.hours_section_of(4, 65_535)),
+    kind("48 hours of form 2", |met| met.is_read(5) && met.hours() == 48),
+    kind("hours section of 239 bytes", |met| met.hours_section_of(5, 239)),
+    kind("hours section of 241 bytes", |met| met.hours_section_of(5, 241)),
+    kind("hours section of 245 bytes", |met| met.hours_section_of(5, 245)),
+    kind("257 to 304 hours", |met| met.has_256_hours_more(5)),
+    kind("hours section of 65,535 bytes", |met| met.breaks_at(5, 5) && met.length(HOURS) == 65_535),
+    kind("the most hours of five pairs", |met| met.has_most_hours()),
 ];
 
 impl Met {
@@ -213,7 +227,7 @@ impl Met {
         match section {
             UNIT => length == 32,
             START_UP | SHUT_DOWN => [2, 4, 6, 8, 10, 12, 14, 16].contains(&length),
-            HOURS => (1..=48).any(|hours| length == hours * (2 * self.pairs.len() - 5)),
+            HOURS => self.hours_of(self.hour_bytes()),
             _ => length == 2,
         }
     }
@@ -223,9 +237,31 @@ impl Met {
         self.refused(2) && self.pairs.len() == pairs && (0..pairs).all(|i| self.fits(i) == (i != section))
     }
 
+    /// The bytes of an hour: 3 beside four pairs, 5 beside five.
+    fn hour_bytes(&self) -> usize {
+        2 * self.pairs.len() - 5
+    }
+
     /// Whether the hours are 1 to 48 entries of so many bytes.
     fn hours_of(&self, bytes: usize) -> bool {
         (1..=48).any(|hours| self.length(HOURS) == hours * bytes)
+    }
+
+    /// Whether the hours of so many pairs alone have a wrong length, and it is this one.
+    fn hours_section_of(&self, pairs: usize, bytes: usize) -> bool {
+        self.wrong_alone(pairs, HOURS) && self.length(HOURS) == bytes
+    }
+
+    /// Whether the hours of so many pairs alone have a wrong length, that of 256 more than 1 to 48.
+    fn has_256_hours_more(&self, pairs: usize) -> bool {
+        let length = |hours: usize| hours * self.hour_bytes();
+        self.wrong_alone(pairs, HOURS) && (257..=304).any(|hours| self.length(HOURS) == length(hours))
+    }
+
+    /// Whether the hours of five pairs alone have a wrong length, that of so many hours that one more would leave no
+    /// offset for the form section.
+    fn has_most_hours(&self) -> bool {
+        self.wrong_alone(5, HOURS) && self.length(HOURS) % 5 == 0 && self.pairs[FORM].0 + 5 > 65_535
     }
 
     /// Whether the form section alone has a wrong length, and it is this one.
