@@ -10,7 +10,7 @@ const SOURCE_PRICES: [i32; 24] = [
 ];
 
 /// The source's unit over so many hours, its prices repeated.
-fn source(hours: usize) -> Case {
+pub fn source(hours: usize) -> Case {
     let mut prices = [0; 48];
     for (k, price) in prices.iter_mut().enumerate().take(hours) {
         *price = SOURCE_PRICES[k % 24];

@@ -1,32 +1,39 @@
 //! The proved search, programmes of the same recurrence within the same memory, and a plain one with all the memory
-//! it wants, in turn in one process: least times, medians and ratios. No test rests on a time.
+//! it wants; the proved reading of a file and a plain one; and, with the feature `before`, two proved libraries. All in
+//! turn in one process: least times, medians and ratios. No test rests on a time.
 
 #[cfg(test)]
 mod agreement;
+#[cfg(feature = "before")]
+mod before;
 mod blocks;
 mod days;
+#[cfg(test)]
+mod dice;
+mod files;
 mod layers;
 mod library;
 mod memory;
 mod plain;
 mod queue;
+mod reader;
 mod steps;
+mod table;
 mod times;
 mod unit;
 mod window;
 
 use blocks::Blocks;
+use giqapsun::boundary::Reading;
 use giqapsun::{Case, WORK};
+use library::NOW;
 use queue::Queue;
 use std::hint::black_box;
+use table::{heads, SEARCH, SHORT};
 use times::Times;
 
-/// Rounds in which the programmes are timed, one after the other.
-const ROUNDS: usize = 2500;
-
-/// Rounds in which the check is timed, and the calls of each.
-const CHECKS: usize = 200;
-const CALLS: usize = 1000;
+/// A programme that reads.
+type Reader = fn(&[u8]) -> Reading;
 
 /// The starts of a list.
 fn starts(case: &Case, list: &[u16]) -> usize {
@@ -39,8 +46,8 @@ fn lines(name: &str, case: &Case) -> [String; 2] {
     let mut work = vec![0i64; WORK];
     let (mut outputs, mut list) = (vec![0u16; case.hours], vec![0u16; case.hours]);
     let [mut proved, mut memory, mut tuned, mut plain, mut checks] = [(); 5].map(|()| Times::default());
-    for _ in 0..ROUNDS {
-        let plan = proved.take(1, || library::best(black_box(case), &mut work, &mut outputs));
+    for _ in 0..SEARCH.rounds {
+        let plan = proved.take(1, || NOW.best(black_box(case), &mut work, &mut outputs));
         assert!(plan.number == 0, "{name}: {plan:?}");
         let profit = memory.take(1, || memory::best::<Queue>(black_box(case), &mut work, &mut list));
         assert_eq!((profit, &list), (Some(plan.profit), &outputs), "{name}: memory");
@@ -49,8 +56,8 @@ fn lines(name: &str, case: &Case) -> [String; 2] {
         let day = plain.take(1, || plain::best(black_box(case)));
         assert_eq!(day.as_ref(), Some(&(plan.profit, outputs.clone())), "{name}: plain");
     }
-    for _ in 0..CHECKS {
-        let verdict = checks.take(CALLS, || library::check(black_box(case), black_box(&outputs)));
+    for _ in 0..SHORT.rounds {
+        let verdict = checks.take(SHORT.calls, || NOW.check(black_box(case), black_box(&outputs)));
         assert!(verdict.number == 0 && verdict.rule == 0, "{name}: the list does not pass");
     }
     let (steps, starts) = (steps::count(case, &outputs), starts(case, &outputs));
@@ -61,24 +68,36 @@ fn lines(name: &str, case: &Case) -> [String; 2] {
     ]
 }
 
-/// The heads of a table.
-fn heads(columns: &[&str], more: &str) {
-    let names: String = columns.iter().map(|name| format!("{name:>16}")).collect();
-    println!("{:<42}{names}{more}", "");
-    println!("{:<42}{}", "day", "   least  median".repeat(columns.len()));
-}
-
-fn main() {
-    heads(&["proved", "memory", "tuned", "plain"], "");
+/// Prints the tables of the search.
+fn searches() {
+    heads("day", &["proved", "memory", "tuned", "plain"], "");
     let mut ratios = Vec::new();
     for (name, case) in days::all() {
         let [times, line] = lines(name, &case);
         println!("{times}");
         ratios.push(line);
     }
-    println!("microseconds; {ROUNDS} rounds in turn\n");
-    heads(&["proved/memory", "proved/tuned", "proved/plain", "check"], " row steps starts");
+    println!("{SEARCH} in turn\n");
+    heads("day", &["proved/memory", "proved/tuned", "proved/plain", "check"], " row steps starts");
     println!("{}", ratios.join("\n"));
-    println!("check: microseconds; {CHECKS} rounds of {CALLS} calls\n");
-    println!("the most row steps of any day within the limits: {}", steps::most());
+    println!("check: {SHORT}\n");
+    println!("the most row steps of any day within the limits: {}\n", steps::most());
+}
+
+/// Prints the table of reading.
+fn readings() {
+    heads("file", &["proved", "rust", "proved/rust"], "  number");
+    let readers: [Reader; 2] = [|file| NOW.read(file), reader::read];
+    for (name, file) in files::all() {
+        let line = table::line(name, &SHORT, readers, |read| read(black_box(&file)));
+        println!("{line}{:>8}", NOW.read(&file).number);
+    }
+    println!("{SHORT} in turn");
+}
+
+fn main() {
+    searches();
+    readings();
+    #[cfg(feature = "before")]
+    before::tables();
 }
