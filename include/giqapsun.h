@@ -116,7 +116,7 @@ extern "C" {
 #endif
 
 /* Version of the product. */
-#define GIQAPSUN_VERSION "2.1.0"
+#define GIQAPSUN_VERSION "2.1.1"
 
 /*
  * Number of the layout: it changes with every change of a struct below, and each function of the library

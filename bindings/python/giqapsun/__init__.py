@@ -40,7 +40,7 @@ from ._boundary import Case as _Case
 from ._boundary import LibraryError, calls, library_file
 from ._texts import REFUSALS, RULES
 
-__version__ = "2.1.0"
+__version__ = "2.1.1"
 
 __all__ = [
     "Case", "Passes", "Breaks", "Plan", "First", "Second", "Neither", "Refusal", "LibraryError",
