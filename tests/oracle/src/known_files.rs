@@ -351,6 +351,20 @@ fn new_day(form: u8, bytes: usize) -> Vec<u8> {
     assemble(&sections)
 }
 
+/// Case 7 in the old form and under five pairs, with an hours section of so many bytes: hours at 5 mills, the last of
+/// which may be cut.
+pub fn of_length(bytes: usize) -> [Vec<u8>; 2] {
+    let day = |entry: &[u8]| {
+        let mut hours = entry.repeat(bytes.div_ceil(entry.len()));
+        hours.truncate(bytes);
+        hours
+    };
+    let (mut old, mut new) = (old_sections(), new_sections());
+    old[3] = day(&[5, 0, 0]);
+    new[3] = day(&[5, 0, 0, 0, 0]);
+    [assemble(&old), assemble(&new)]
+}
+
 /// Hours sections that may be counted wrong; each hour has a price of its own, so that one lost or taken twice shows.
 /// Of 1 to 48 whole hours they are read: 3 to 144 bytes in the old form, 5 to 240 in form 2. Any other length is 2: a
 /// byte short of one hour or past it; a byte or two short of 48 hours or past them; 49 hours; 257, 280 and 304 hours,

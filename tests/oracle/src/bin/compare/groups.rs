@@ -52,7 +52,7 @@ impl Group {
 }
 
 /// All groups in the order in which they run.
-pub const GROUPS: [Group; 19] = [
+pub const GROUPS: [Group; 20] = [
     group("known-days", 13, known_day, "the known days, all calls, every list checked"),
     group("known-prices", known_prices::COUNT, known_price, "known days below zero and at the limits"),
     group("source-day", 2, source_day, "the source's day, once and twice over"),
@@ -63,6 +63,7 @@ pub const GROUPS: [Group; 19] = [
     group("long-days", 2_000, long_days, "up to 48 hours, by the dynamic programme"),
     group("full-days", 300, full_days, "up to 400 MW, by the dynamic programme"),
     group("known-files", known_files::COUNT, known_file, "the known files of both forms"),
+    group("hours-lengths", 65_536, hours_lengths, "an hours section of every length, in both forms"),
     group("both-forms", 5_000, both_forms, "a case in the old form and in form 2"),
     group(
         "damaged-files",
@@ -226,6 +227,14 @@ fn known_file(run: &mut Run, index: u64) {
     let row = &known_files()[index as usize];
     run.independent(&days::program_example(), &file::read(&row.bytes), &row.answer);
     read_and_write(run, &row.bytes);
+}
+
+/// Files of both forms with an hours section of so many bytes.
+fn hours_lengths(run: &mut Run, index: u64) {
+    for bytes in known_files::of_length(index as usize) {
+        run.tally.refusals[answers::reading(&bytes).number as usize] += 1;
+        run.read(&bytes);
+    }
 }
 
 /// A case at old prices: both its files are read as one record, and it is written again as the second.

@@ -261,7 +261,7 @@ impl Met {
     /// Whether the hours of five pairs alone have a wrong length, that of so many hours that one more would leave no
     /// offset for the form section.
     fn has_most_hours(&self) -> bool {
-        self.wrong_alone(5, HOURS) && self.length(HOURS) % 5 == 0 && self.pairs[FORM].0 + 5 > 65_535
+        self.wrong_alone(5, HOURS) && self.length(HOURS).is_multiple_of(5) && self.pairs[FORM].0 + 5 > 65_535
     }
 
     /// Whether the form section alone has a wrong length, and it is this one.
