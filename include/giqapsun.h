@@ -4,7 +4,7 @@
  * Six calls: read a case file, write a case file, check a list of hourly outputs, find the list that
  * earns most, by the case's own hour orders or by those of a calendar, tell the better of two lists.
  * Structs go by value; a slice is a pointer and then its length in elements, not bytes. The calls allocate
- * nothing and keep nothing from one call to the next.
+ * nothing, keep nothing from one call to the next, and have no instruction that divides.
  *
  * Units
  *
