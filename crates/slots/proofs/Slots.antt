@@ -95,11 +95,9 @@ slot-same l s t h e = sym (mul-div-cancel s h) ∙ ap (λ x. x / l) e ∙ mul-di
 -- the first slot that is not before hour k
 module _ (l k : ℕ) (some : 1 ≤ l) where
   pub slot-from : k ≤ slotFrom l k * l
-  unfolding slotFrom
   slot-from = omega (arith, div-add-mod' (k + l - 1) l, mod-lt (k + l - 1) some)
 
   pub slot-near : slotFrom l k * l ≤ k + l - 1
-  unfolding slotFrom
   slot-near = omega (arith, div-add-mod' (k + l - 1) l)
 
   -- it is hour k's own, if that has one

@@ -36,7 +36,7 @@ pub record Slotted (u : Unit) (l n : ℕ) : Type 0 where
   pub room : (s : ℕ) → s * l < u .hours .0 → s * n + n ≤ workLength
 
 -- the first slot whose hour is not before hour k, where every l-th hour has one
-unfoldable pub slotFrom : ℕ → ℕ → ℕ
+abbrev pub slotFrom : ℕ → ℕ → ℕ
 slotFrom l k = (k + l - 1) / l
 
 -- every l-th layer from hour a on, each in its slot

@@ -1,10 +1,9 @@
 -- `slots::slot_from` meets its contract. Assumes nothing.
-use mathlib.Core.Path.{_≡_, refl, ap}
+use mathlib.Core.Path.{refl, ap}
 use borrow.Author.Needs.{needs}
 use Prim.Native.Nat.{_+_, _*_, _-_}
 use native.Mathlib.Nat.{div-le-self}
 use native.Mathlib.Omega.{arith}
-use Rattle.slots.specs.Saved.{slotFrom}
 use Rattle.slots.proofs.Slots.{slot-near}
 use Rattle.slots.proofs.slot_from.Statement.{statement}
 use Rattle.slots.proofs.slot_from.Tie as tie
@@ -28,10 +27,6 @@ whole-requires c κs = search needs
 abbrev start : tie.After-whole → tie.Start
 start c = c .before .before .before .before
 
-number : (c : tie.After-whole) → c .whole .result ≡ slotFrom (start c .args .l .0) (start c .args .k .0)
-unfolding slotFrom
-number c = c .whole .ensures
-
 cast-t4 : tie.Need-cast-t4
 cast-t4 c =
     let s = start c in
@@ -42,10 +37,10 @@ mul-t5 : tie.Need-mul-t5
 mul-t5 c =
     let s = start (c .before) in
     let near = slot-near (s .args .l .0) (s .args .k .0) (s .pre .0) in
-    omega (arith, near, ap (λ n. n * s .args .l .0) (number (c .before)), s .pre .1)
+    omega (arith, near, ap (λ n. n * s .args .l .0) (c .before .whole .ensures), s .pre .1)
 
 returns : tie.Need-returns
-returns c = (number (c .before), refl)
+returns c = (c .before .whole .ensures, refl)
 
 pub slot-from-spec : {M : Type 1} → statement M
 slot-from-spec =
