@@ -18,30 +18,30 @@ use Rattle.machine.specs.Coded.{missing, coded, Bounded, amount}
 use Rattle.machine.specs.Search.{maybe}
 use Rattle.machine.specs.Bounds.{mostWorth}
 use Rattle.machine.specs.Fit.{Fit, Fair}
-use Rattle.machine.specs.Cases.{unitOf, termsOf, openingOf}
+use Rattle.machine.specs.Cases.{unitOf, termsOf, openingOf, stopsEarly}
 use Rattle.machine.proofs.Table.BoundsLaws.{worth-below}
 use Rattle.machine.proofs.Table.CodedLaws.{low}
 use Rattle.machine.proofs.Table.Sizes.{worth-size}
-use Rattle.machine.proofs.Bridge.Bests.{worth-profit, worth-none, planAt-best, length-planAt}
+use Rattle.machine.proofs.Bridge.Bests.{worth-profit, worth-none, planAt-best, length-planAt, best-early}
 use Rattle.cells.specs.Table.{Found}
 
 -- a worth of a day is above the code of none
 amount-above : (v : ℤ) → Bounded mostWorth (some v) → leZ v missing ≡ false
 amount-above v (amount b) = low mostWorth worth-below v b
 
-module _ (c : Case) (e : refusalOf c ≡ 0) (fit : Fit (unitOf c))
+module _ (c : Case) (e : refusalOf c ≡ 0) (late : stopsEarly c ≡ false) (fit : Fit (unitOf c))
     (fair : (k : ℕ) → Fair (termsOf c k)) (work : List ℤ) (ys zs : List ℕ) (z : ℤ)
     (found : Found (unitOf c) (termsOf c) (openingOf c) ys zs z) where
   -- the number tells whether there is a list
   present : (l : List ℕ) → bestDay c ≡ some l → leZ z missing ≡ false
   present l b =
-      let w = worth-profit c e l b in
+      let w = worth-profit c e late l b in
       rw (found .profit ∙ ap coded w)
       (amount-above (profitOf c l) (subst (Bounded mostWorth) w
       (worth-size (unitOf c) fit (termsOf c) fair 0 (openingOf c))))
 
   absent : bestDay c ≡ none → leZ z missing ≡ true
-  absent b = rw (found .profit ∙ ap coded (worth-none c e b)) refl
+  absent b = rw (found .profit ∙ ap coded (worth-none c e late b)) refl
 
   -- what is left, where the number says that there is none
   pub find-none : leZ z missing ≡ true
@@ -51,7 +51,7 @@ module _ (c : Case) (e : refusalOf c ≡ 0) (fit : Fit (unitOf c))
     where
       go : (r : Option (List ℕ)) → bestDay c ≡ r → (Refused 11 ≡ planned c work ys r .answer) ×
           (zs ≡ planned c work ys r .outputs)
-      go none d = (refl, found .list ∙ ap (maybe ys _) (worth-none c e d))
+      go none d = (refl, found .list ∙ ap (maybe ys _) (worth-none c e late d))
       go (some l) d = absurd (true≢false (sym t ∙ present l d))
 
   -- and where it is a profit
@@ -65,22 +65,31 @@ module _ (c : Case) (e : refusalOf c ≡ 0) (fit : Fit (unitOf c))
           → (Planned (record { 0 = z }) ≡ planned c work ys r .answer) × (zs ≡ planned c work ys r .outputs)
       go none d = absurd (true≢false (sym (absent d) ∙ t))
       go (some l) d =
-          let w = worth-profit c e l d in
-          let plan = planAt-best c e l d in
-          let long : c .hours ≡ length l = sym (length-planAt c e l d) ∙ ap length plan in (
+          let w = worth-profit c e late l d in
+          let plan = planAt-best c e late l d in
+          let long : c .hours ≡ length l = sym (length-planAt c e late l d) ∙ ap length plan in (
             ap (λ v. Planned (record { 0 = v })) (found .profit ∙ ap coded w),
             found .list ∙ ap (maybe ys _) w ∙ ap (λ x. x ++ drop (c .hours) ys) plan ∙ ap (λ n. l ++ drop n ys) long,
           )
-
-  pub find-work : planned c work ys (bestDay c) .work ≡ cleared workLength work
-  unfolding planned
-  find-work = go (bestDay c)
-    where
-      go : (r : Option (List ℕ)) → planned c work ys r .work ≡ cleared workLength work
-      go none = refl
-      go (some l) = refl
 
 -- zeroing the first numbers asks only what stands past them
 pub cleared-past : (n : ℕ) (xs ys : List ℤ) → drop n ys ≡ drop n xs → cleared n ys ≡ cleared n xs
 unfolding cleared
 cleared-past n xs ys e = rw e
+
+-- the working numbers are zeroed, whether a list is found or not
+pub planned-work : (c : Case) (work : List ℤ) (ys : List ℕ) (r : Option (List ℕ))
+    → planned c work ys r .work ≡ cleared workLength work
+unfolding planned
+planned-work c work ys none = refl
+planned-work c work ys (some l) = refl
+
+-- a day whose opening stop comes too early
+module _ (c : Case) (e : refusalOf c ≡ 0) (early : stopsEarly c ≡ true) (work : List ℤ) (ys : List ℕ) where
+  pub early-answer : Refused 11 ≡ planned c work ys (bestDay c) .answer
+  unfolding planned
+  early-answer = rw (best-early c e early)
+
+  pub early-outputs : ys ≡ planned c work ys (bestDay c) .outputs
+  unfolding planned
+  early-outputs = rw (best-early c e early)

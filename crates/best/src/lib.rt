@@ -15,6 +15,7 @@ use model::Outcome;
 use model::Plan;
 use model::Reading;
 use model::WORK;
+ghost use mathlib.Core.Bool.{false};
 ghost use mathlib.Core.Path.{_≡_};
 ghost use Prim.Native.Nat.{_≤_};
 ghost use lib.ListN.{length, drop};
@@ -22,6 +23,7 @@ ghost use Rattle.model.specs.Limits.{workLength};
 ghost use Rattle.model.specs.Best.{bestDay};
 ghost use Rattle.model.specs.Refusals.{refusalOf};
 ghost use Rattle.model.specs.Answers.{planned, scheduleOf};
+ghost use Rattle.machine.specs.Cases.{stopsEarly};
 ghost use Rattle.machine.specs.Moves.{dayOf};
 ghost use Rattle.machine.specs.Fit.{Fit};
 ghost use Rattle.machine.specs.Proper.{Proper};
@@ -47,10 +49,10 @@ fn search_first(
     search::search(u, charges, margins, orders, s, &mut work[0..WORK], outputs)
 }
 
-// The best list of a case within the limits, in memory that is long enough: the working numbers are zeroed, and the
-// list, if there is one, fills the first outputs.
-fn find(case: Case, work: &mut [i64], outputs: &mut [u16]) -> Plan
-    requires { ⌜ refusalOf case ≡ 0 ⌝ }
+// The best list from the opening of a case within the limits whose opening stop, if there is one, comes late enough, in
+// memory that is long enough: the working numbers are zeroed, and the list, if there is one, fills the first outputs.
+fn searched(case: Case, work: &mut [i64], outputs: &mut [u16]) -> Plan
+    requires { ⌜ (refusalOf case ≡ 0) × (stopsEarly case ≡ false) ⌝ }
     requires { ⌜ (workLength ≤ length (now work)) × (case .hours ≤ length (now outputs)) ⌝ }
     ensures answer { λ r. ⌜ r ≡ (planned case (now (work .entry)) (now (outputs .entry)) (bestDay case)) .answer ⌝ }
     ensures work { λ _. ⌜ now (work .exit)
@@ -72,6 +74,24 @@ fn find(case: Case, work: &mut [i64], outputs: &mut [u16]) -> Plan
         return Plan::Refused(11);
     }
     Plan::Found(worth)
+}
+
+// The best list of a case within the limits, in memory that is long enough. A day that opens in a shut-down whose stop
+// comes too early has none.
+fn find(case: Case, work: &mut [i64], outputs: &mut [u16]) -> Plan
+    requires { ⌜ refusalOf case ≡ 0 ⌝ }
+    requires { ⌜ (workLength ≤ length (now work)) × (case .hours ≤ length (now outputs)) ⌝ }
+    ensures answer { λ r. ⌜ r ≡ (planned case (now (work .entry)) (now (outputs .entry)) (bestDay case)) .answer ⌝ }
+    ensures work { λ _. ⌜ now (work .exit)
+        ≡ (planned case (now (work .entry)) (now (outputs .entry)) (bestDay case)) .work ⌝ }
+    ensures outputs { λ _. ⌜ now (outputs .exit)
+        ≡ (planned case (now (work .entry)) (now (outputs .entry)) (bestDay case)) .outputs ⌝ }
+{
+    if unit::stops_early(case) {
+        wipe::clear(work, WORK);
+        return Plan::Refused(11);
+    }
+    searched(case, work, outputs)
 }
 
 // The best list of the case of a reading. A refused reading is returned as it is, and the record of an accepted one is

@@ -7,7 +7,7 @@ ghost use lib.IntN.{pos, _-ℤ_};
 ghost use Rattle.model.specs.Limits.{mostStages, mostHours};
 ghost use Rattle.model.specs.Layout.{padded, noOutput, noMills};
 ghost use Rattle.model.specs.Refusals.{refusalOf};
-ghost use Rattle.machine.specs.Cases.{unitOf, chargesOf, openingOf};
+ghost use Rattle.machine.specs.Cases.{unitOf, chargesOf, openingOf, stopsEarly};
 use machine::Charges;
 use machine::State;
 use machine::Unit;
@@ -79,12 +79,28 @@ pub(crate) fn opening_of(case: Case) -> State
     requires { ⌜ refusalOf case ≡ 0 ⌝ }
     ensures { λ r. ⌜ r ≡ openingOf case ⌝ }
 {
+    if case.upstage != 0 {
+        return State::Rise(case.upstage as usize - 1);
+    }
+    if case.downstage != 0 {
+        return State::Fall(case.downstage as usize - 1);
+    }
     let output = case.initial;
     if output.0 == 0 {
         return State::Off(case.elapsed.least(case.mindown));
     }
     let done = Hour(case.elapsed.0 + case.falls as u16);
     State::Run(output, Hour(case.minup.0 + 1).less(done))
+}
+
+// Whether the day opens in a shut-down whose stop comes before the minimum up time has passed.
+pub(crate) fn stops_early(case: Case) -> bool
+    requires { ⌜ refusalOf case ≡ 0 ⌝ }
+    ensures { λ r. ⌜ r ≡ stopsEarly case ⌝ }
+{
+    let passed = Hour(case.elapsed.0 + case.falls as u16);
+    let asked = Hour(case.minup.0 + case.downstage as u16);
+    (0 < case.downstage) & (passed.0 < asked.0)
 }
 
 // The unit of a case within the limits.

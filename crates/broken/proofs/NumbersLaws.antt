@@ -6,8 +6,8 @@ use Prim.Native.Nat.{ℕ, _+_, _*_}
 use lib.Dec.{leb, eqb}
 use Rattle.model.specs.declared.Case.{Case}
 use Rattle.model.specs.Symbols.{high, low, RU, RD, order}
-use Rattle.model.specs.Marks.{p, v}
-use Rattle.model.specs.Constraints.{starting, stopping}
+use Rattle.model.specs.Marks.{p, v, starting}
+use Rattle.model.specs.Constraints.{stopping}
 use Rattle.model.specs.Constraints.{rule1, rule2, rule3, rule4, rule5, rule6}
 use Rattle.model.specs.Constraints.{rule7, rule8, rule9, rule10, rule11, rule12}
 use Rattle.model.specs.Rules.{rule21, rule22, rule23}
@@ -22,7 +22,7 @@ use Rattle.broken.specs.Compared.{aboveLeast, belowMost, withinRamp, mee
 use Rattle.broken.specs.Elapsed.{Elapsed}
 
 -- a minimum time, at a mark
-timed : {m n x y : ℕ} (least : ℕ) → m ≡ n → x ≡ y → (eqb m 0 || leb least x) ≡ (eqb n 0 || leb least y)
+pub timed : {m n x y : ℕ} (least : ℕ) → m ≡ n → x ≡ y → (eqb m 0 || leb least x) ≡ (eqb n 0 || leb least y)
 timed least a b = cc
 
 module _ {c : Case} {l : List ℕ} {k : ℕ} {n : Numbers} (h : Numbered c l k n) where

@@ -14,15 +14,17 @@ use crate::times::kept_order;
 use crate::times::kept_time;
 use hours::Numbers;
 use model::Case;
+use model::Hour;
 ghost use mathlib.Core.Path.{_≡_};
 ghost use mathlib.Core.Bool.{cond};
 ghost use mathlib.Core.List.{List};
-ghost use Prim.Native.Nat.{ℕ, _<_};
-ghost use Rattle.model.specs.Symbols.{order};
+ghost use Prim.Native.Nat.{ℕ, _≤_, _<_};
+ghost use Rattle.model.specs.Symbols.{last, order};
+ghost use Rattle.model.specs.Marks.{y, z};
 ghost use Rattle.model.specs.Rules.{brokenOf, brokenAt};
 ghost use Rattle.model.specs.Refusals.{refusalOf};
 ghost use Rattle.hours.specs.Numbered.{Numbered};
-ghost use Rattle.broken.specs.Elapsed.{Elapsed};
+ghost use Rattle.broken.specs.Elapsed.{Held, Elapsed};
 ghost use Rattle.broken.specs.Groups.{Rules, edge, limit, ramp, commitment, overlap, terms};
 
 // The number of a rule that is not kept; else that of the rules after it.
@@ -115,10 +117,10 @@ fn broken_terms(case: Case, n: Numbers, since: Since, wanted: u8) -> u8
     first(kept_time(marks.stop, case.minup, since.start), 21, down)
 }
 
-// The lowest rule that hour k breaks, from hour 1 on, with its order.
+// The lowest rule that hour k breaks, from hour 1 to T, with its order.
 pub fn broken_at(case: Case, n: Numbers, since: Since, wanted: u8) -> u8
     requires { ⌜ refusalOf case ≡ 0 ⌝ }
-    ensures { λ r. ⌜ ((l : List ℕ) (k : ℕ) → 0 < k → Numbered case l k n → Elapsed case l k since
+    ensures { λ r. ⌜ ((l : List ℕ) (k : ℕ) → 0 < k → k ≤ last case → Numbered case l k n → Elapsed case l k since
         → wanted ≡ order case k → r ≡ brokenAt case l k) ⌝ }
 {
     let terms = broken_terms(case, n, since, wanted);
@@ -126,4 +128,13 @@ pub fn broken_at(case: Case, n: Numbers, since: Since, wanted: u8) -> u8
     let commitment = broken_commitment(n, overlap);
     let ramp = broken_ramp(case, n, commitment);
     broken_limit(case, n, ramp)
+}
+
+// The rule that an hour above T breaks: 21, by the mark of its stop and the hours since the latest start; 0 where it
+// breaks none.
+pub fn broken_after(case: Case, stop: u8, since: Hour) -> u8
+    ensures { λ r. ⌜ ((l : List ℕ) (k : ℕ) → last case < k → stop ≡ z case l k → Held case (y case l) k (since .0)
+        → r ≡ brokenAt case l k) ⌝ }
+{
+    first(kept_time(stop, case.minup, since), 21, 0)
 }

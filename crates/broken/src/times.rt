@@ -30,7 +30,7 @@ pub fn opening(case: Case) -> Since
 }
 
 // Hours since a mark, at the next hour.
-fn later(hours: Hour, mark: u8) -> Hour
+pub fn later(hours: Hour, mark: u8) -> Hour
     requires { ⌜ hours .0 + 1 < words ⌝ }
     ensures { λ r. ⌜ ((c : Case) (f : ℕ → ℕ) (k : ℕ) → 0 < k → mark ≡ f k → Held c f k (hours .0)
         → Held c f (k + 1) (r .0)) ⌝ }

@@ -33,6 +33,8 @@ fn blank() -> Case
         stopcost: Mills(0),
         initial: Output(0),
         elapsed: Hour(0),
+        upstage: 0,
+        downstage: 0,
         rise: [Output(0); STAGES],
         fall: [Output(0); STAGES],
         prices: [Mills(0); HOURS],

@@ -1,21 +1,24 @@
 -- The numbers of an hour as the source has them. Assumes nothing.
-use mathlib.Core.Path.{_≡_, sym, ap}
+use mathlib.Core.Path.{_≡_, sym, ap, _∙_}
 use mathlib.Core.List.{List}
-use Prim.Native.Nat.{ℕ, _+_, _-_}
+use Prim.Native.Nat.{ℕ, _+_, _*_, _-_, _≤_}
 use native.Mathlib.Omega.{arith}
 use Rattle.model.specs.declared.Case.{Case}
 use Rattle.model.specs.declared.Output.{Output}
-use Rattle.model.specs.Symbols.{sum, UD, DD}
-use Rattle.model.specs.Marks.{y, z}
+use Rattle.model.specs.Limits.{mostStages}
+use Rattle.model.specs.Symbols.{sum, stage, UD, DD}
+use Rattle.model.specs.Marks.{yBack, z}
 use Rattle.model.specs.Constraints.{stopping, stopsWithin}
+use Rattle.model.proofs.SymbolsLaws.{sum-same}
 use Rattle.model.proofs.MarksLaws.{z-zero}
 use Rattle.model.proofs.ConstraintsLaws.{starting-is, startOutput-is, stopOutput-is, stopsWithin-is, stopping-is}
 use Rattle.hours.specs.declared.marks.Marks.{Marks}
 use Rattle.hours.specs.declared.stages.Sequence.{Sequence}
 use Rattle.hours.specs.declared.Numbers.{Numbers}
-use Rattle.hours.specs.Counted.{counted}
+use Rattle.hours.specs.Counted.{counted, startOf}
 use Rattle.hours.specs.Numbered.{sequenceAt, numbersAt}
 use Rattle.hours.proofs.CountLaws.{counted-on, counted-back}
+use Rattle.hours.proofs.StartsLaws.{start-back}
 
 abbrev pub megawatts : ℕ → Output
 megawatts n = record { 0 = n }
@@ -45,8 +48,17 @@ module _ (c : Case) (l : List ℕ) where
       let end : f (k + 1 + DD c) ≡ f (k + DD c + 1) = ap f (omega arith) in
       omega (arith, back, stops-are (k + 1) (DD c), stopping-is c l k)
 
-  pub startup-is : (k : ℕ) → sequenceAt (y c l) (c .rise) (UD c) k ≡ numbersAt c l k .startup
-  startup-is k = sequence-of (sym (starting-is c l k)) (sym (startOutput-is c l k))
+  pub startup-is : UD c ≤ mostStages → (k : ℕ)
+      → sequenceAt (startOf c l) (c .rise) (UD c) (k + mostStages) ≡ numbersAt c l k .startup
+  startup-is few k =
+      let here : (i : ℕ) → i ≤ UD c → startOf c l (k + mostStages + 1 - i) ≡ yBack c l k i =
+      λ i b. start-back c l k i (omega arith) in
+      sequence-of
+      (sum-same (λ i. startOf c l (k + mostStages + 1 - i)) (λ i. yBack c l k i) (UD c) (λ i a b. here i b)
+      ∙ sym (starting-is c l k))
+      (sum-same (λ i. stage (c .rise) i * startOf c l (k + mostStages + 1 - i)) (λ i. stage (c .rise) i * yBack c l k i)
+      (UD c) (λ i a b. ap (λ x. stage (c .rise) i * x) (here i b))
+      ∙ sym (startOutput-is c l k))
 
   pub shutdown-is : (k : ℕ) → sequenceAt (z c l) (c .fall) (DD c) (k + DD c) ≡ numbersAt c l k .shutdown
   shutdown-is k = sequence-of (stopping-are k) (sym (stopOutput-is c l k))

@@ -5,9 +5,9 @@ use Prim.Native.Nat.{ℕ, zero, suc, _+_, _-_, _*_, _≤_}
 use lib.ListN.{length, getD}
 use Rattle.model.specs.declared.Case.{Case}
 use Rattle.model.specs.Limits.{mostStages, mostHours}
-use Rattle.model.specs.Marks.{y, z}
+use Rattle.model.specs.Marks.{yBack, z}
 
--- places of the counts: the hours of a day, and the longest start-up and shut-down after them; the last of them
+-- places of the counts: the hours of a day, and the longest start-up and shut-down around them; the last of them
 abbrev pub countsLength : ℕ
 countsLength = mostHours + 2 * mostStages
 
@@ -26,7 +26,11 @@ pub record Running (f : ℕ → ℕ) (n : ℕ) (xs : List ℕ) : Type 0 where
   pub once : (k : ℕ) → f k ≤ 1
   pub at : (k : ℕ) → k ≤ n → getD xs k 0 ≡ counted f k
 
+-- the mark of a start in hour n − mostStages: the hours below 1 that a start-up reaches back to come first
+abbrev pub startOf : Case → List ℕ → ℕ → ℕ
+startOf c l n = yBack c l n (suc mostStages)
+
 -- the counts of the starts and of the stops of a list
 pub record Counted (c : Case) (l : List ℕ) (ups downs : List ℕ) : Type 0 where
-  pub starts : Running (y c l) lastCount ups
+  pub starts : Running (startOf c l) lastCount ups
   pub stops : Running (z c l) lastCount downs

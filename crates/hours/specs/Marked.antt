@@ -1,8 +1,6 @@
 -- The marks of an hour by the outputs at its ends. Definitions only. Assumes nothing.
 use mathlib.Core.Path.{_≡_}
-use mathlib.Core.List.{List}
 use Prim.Native.Nat.{ℕ, _≤_, _<_}
-use lib.ListN.{length, getD}
 use Rattle.hours.specs.declared.marks.Marks.{Marks}
 
 -- r is 1 where the unit is on-line at output p, else 0
@@ -23,8 +21,3 @@ pub record Marked (q p : ℕ) (m : Marks) : Type 0 where
   pub wasonline : Online q (m .wasonline)
   pub start : Began (m .wasonline) (m .online) (m .start)
   pub stop : Began (m .online) (m .wasonline) (m .stop)
-
--- r is the output at place i of a list; past its end, that of the hour before
-pub record Next (l : List ℕ) (i was r : ℕ) : Type 0 where
-  pub inside : i < length l → r ≡ getD l i 0
-  pub past : length l ≤ i → r ≡ was

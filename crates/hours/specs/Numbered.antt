@@ -5,8 +5,8 @@ use Prim.Native.Nat.{ℕ, _+_, _-_, _*_}
 use Rattle.model.specs.declared.Case.{Case}
 use Rattle.model.specs.declared.Output.{Output}
 use Rattle.model.specs.Symbols.{sum, stage, before, UD, DD}
-use Rattle.model.specs.Marks.{p, v, y, z}
-use Rattle.model.specs.Constraints.{starting, stopping, startOutput, stopOutput, stopsWithin}
+use Rattle.model.specs.Marks.{p, v, y, starting, z}
+use Rattle.model.specs.Constraints.{stopping, startOutput, stopOutput, stopsWithin}
 use Rattle.hours.specs.declared.marks.Marks.{Marks}
 use Rattle.hours.specs.declared.stages.Sequence.{Sequence}
 use Rattle.hours.specs.declared.Numbers.{Numbers}

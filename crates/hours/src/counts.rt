@@ -1,52 +1,132 @@
-// Running counts of starts and of stops (specs/Counted): at place k the marks of the hours before hour k. The marks of
-// the hours from one to before another are the difference of two places.
+// Running counts of starts and of stops (specs/Counted). At place k of the stops stand the marks of the hours before
+// hour k; the starts are STAGES places on, since they begin with the hours below 1. The marks of the hours from one to
+// before another are the difference of two places.
 use crate::marks::marks_of;
+use crate::marks::output_at;
 use model::Case;
 use model::HOURS;
 use model::Hour;
 use model::Output;
 use model::STAGES;
 ghost use mathlib.Core.Path.{_≡_};
+ghost use mathlib.Core.Bool.{_&&_};
 ghost use Prim.Native.Nat.{ℕ, _-_, _≤_};
-ghost use lib.ListN.{length, replicate};
-ghost use Rattle.hours.specs.Counted.{countsLength, lastCount, counted, Running, Counted};
-ghost use Rattle.hours.specs.Marked.{Next};
+ghost use lib.Dec.{leb, eqb};
+ghost use lib.ListN.{replicate};
+ghost use Rattle.model.specs.Limits.{mostStages};
+ghost use Rattle.model.specs.Symbols.{bit, last, stage};
+ghost use Rattle.model.specs.Marks.{starting, z};
+ghost use Rattle.model.specs.Refusals.{refusalOf};
+ghost use Rattle.hours.specs.Counted.{countsLength, lastCount, counted, startOf, Running, Counted};
 
-// Places of the counts: the hours of a day, and the longest start-up and shut-down after them; the last of them.
+// Places of the counts: the hours of a day, and the longest start-up and shut-down around them; the last of them.
 pub const COUNTS: usize = HOURS + 2 * STAGES;
 
 const LAST: usize = COUNTS - 1;
 
-// The output at place i of a list; past its end, that of the hour before.
-fn next_output(list: &[u16], i: usize, was: Output) -> Output
-    ensures { λ r. ⌜ Next (now (list .entry)) i (was .0) (r .0) ⌝ }
+// Hours below 1 that the counts of the starts begin with.
+pub const BELOW: u16 = STAGES as u16;
+
+// The mark of a start in hour n − STAGES.
+fn start_at(case: Case, list: &[u16], n: usize) -> u8
+    requires { ⌜ n ≤ lastCount ⌝ }
+    ensures { λ r. ⌜ r ≡ startOf case (now (list .entry)) n ⌝ }
 {
-    if i < list.len() {
-        return Output(list[i]);
+    if n <= STAGES {
+        if n + case.upstage as usize == STAGES + 1 {
+            return 1;
+        }
+        return 0;
     }
-    was
+    let k = n - STAGES;
+    if case.hours < k {
+        return 0;
+    }
+    let was = output_at(case, list, Hour((k - 1) as u16));
+    let is = output_at(case, list, Hour(k as u16));
+    marks_of(was, is).start
 }
 
-// The counts of the starts and of the stops of a list of T outputs, in place of zeros.
+// 1 where a day that ends at this output closes at entry i of the shut-down trajectory, else 0.
+fn closing(fall: [Output; STAGES], falls: usize, end: Output, i: usize) -> u8
+    requires { ⌜ falls ≤ mostStages ⌝ }
+    ensures { λ r. ⌜ r ≡ bit (leb 2 i && (leb i falls && eqb (end .0) (stage fall i))) ⌝ }
+{
+    if i < 2 {
+        return 0;
+    }
+    if falls < i {
+        return 0;
+    }
+    let output = fall[i - 1];
+    if end.0 == output.0 { 1 } else { 0 }
+}
+
+// The mark of a stop in hour k, from hour 1 on; `started` start-ups hold hour T.
+fn stop_at(case: Case, list: &[u16], started: u8, k: usize) -> u8
+    requires { ⌜ refusalOf case ≡ 0 ⌝ }
+    requires { ⌜ (1 ≤ k) × (k ≤ lastCount) ⌝ }
+    requires { ⌜ started ≡ starting case (now list) (last case) ⌝ }
+    ensures { λ r. ⌜ r ≡ z case (now (list .entry)) k ⌝ }
+{
+    let hours = case.hours;
+    if k <= hours {
+        let was = output_at(case, list, Hour((k - 1) as u16));
+        let is = output_at(case, list, Hour(k as u16));
+        return marks_of(was, is).stop;
+    }
+    let end = hours + case.falls + 1;
+    if end < k {
+        return 0;
+    }
+    if started != 0 {
+        return 0;
+    }
+    let fall = case.fall;
+    closing(fall, case.falls, output_at(case, list, Hour(hours as u16)), end - k)
+}
+
+// The counts of the starts of a list, in place of zeros.
+fn count_starts(case: Case, list: &[u16], starts: &mut [u8; COUNTS])
+    requires { ⌜ refusalOf case ≡ 0 ⌝ }
+    requires { ⌜ now starts ≡ replicate countsLength 0 ⌝ }
+    ensures { λ _. ⌜ Running (startOf case (now (list .entry))) lastCount (now (starts .exit)) ⌝ }
+{
+    let mut marks = 0;
+    let mut n = 1;
+    while n < LAST {
+        marks += start_at(case, list, n);
+        n += 1;
+        starts[n] = marks;
+    }
+}
+
+// The counts of its stops, in place of zeros.
+fn count_stops(case: Case, list: &[u16], started: u8, stops: &mut [u8; COUNTS])
+    requires { ⌜ refusalOf case ≡ 0 ⌝ }
+    requires { ⌜ started ≡ starting case (now list) (last case) ⌝ }
+    requires { ⌜ now stops ≡ replicate countsLength 0 ⌝ }
+    ensures { λ _. ⌜ Running (z case (now (list .entry))) lastCount (now (stops .exit)) ⌝ }
+{
+    let mut marks = 0;
+    let mut k = 1;
+    while k < LAST {
+        marks += stop_at(case, list, started, k);
+        k += 1;
+        stops[k] = marks;
+    }
+}
+
+// The counts of the starts and of the stops of a list, in place of zeros.
 pub fn count_marks(case: Case, list: &[u16], starts: &mut [u8; COUNTS], stops: &mut [u8; COUNTS])
-    requires { ⌜ length (now list) ≡ case .hours ⌝ }
+    requires { ⌜ refusalOf case ≡ 0 ⌝ }
     requires { ⌜ (now starts ≡ replicate countsLength 0) × (now stops ≡ replicate countsLength 0) ⌝ }
     ensures { λ _. ⌜ Counted case (now (list .entry)) (now (starts .exit)) (now (stops .exit)) ⌝ }
 {
-    let mut was = case.initial;
-    let mut up = 0;
-    let mut down = 0;
-    let mut k = 1;
-    while k < LAST {
-        let is = next_output(list, k - 1, was);
-        let marks = marks_of(was, is);
-        up += marks.start;
-        down += marks.stop;
-        k += 1;
-        starts[k] = up;
-        stops[k] = down;
-        was = is;
-    }
+    count_starts(case, list, starts);
+    let next = Hour(case.hours as u16 + BELOW + 1);
+    let started = between(starts, next.less(Hour(case.rises as u16)), next);
+    count_stops(case, list, started, stops);
 }
 
 // The marks of the hours from one to before another.

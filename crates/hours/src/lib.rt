@@ -1,10 +1,12 @@
 // The numbers of an hour of a list: its output, its marks, and the sums that the constraints compare (model's
-// specs/Marks and specs/Constraints). A sum of marks is the difference of two running counts (specs/Counted). Only
+// specs/Marks and specs/Constraints). A sum of marks is the difference of two running counts (specs/Counted), which
+// have the marks outside the day too. Only
 // other crates of this repository call what has a `requires` here, with a case within the limits.
 pub mod counts;
 pub mod marks;
 pub mod stages;
 
+use crate::counts::BELOW;
 use crate::counts::COUNTS;
 use crate::counts::between;
 use crate::marks::Marks;
@@ -59,7 +61,7 @@ pub fn numbers_at(
     let output = output_at(case, list, k);
     let earlier = output_at(case, list, k.less(Hour(1)));
     let marks = marks_of(earlier, output);
-    let startup = sequence_at(rise, case.rises, starts, k);
+    let startup = sequence_at(rise, case.rises, starts, Hour(at + BELOW));
     let shutdown = sequence_at(fall, case.falls, stops, fallen);
     Numbers {
         output: output,

@@ -1,6 +1,7 @@
 // The days whose answers are known from outside: the twelve of the scope on its small unit, pairs of lists, prices
-// below zero and far above it and days of a calendar on that unit, and the days of the source, whose case is read
-// from standard input in the old form and written in form 2. Prints one line for each: what was asked, and the answer
+// below zero and far above it and days of a calendar on that unit, days that open and close inside a sequence on a
+// unit with longer trajectories, and the days of the source, whose case is read from standard input in the old form
+// and written in form 3. Prints one line for each: what was asked, and the answer
 // of best::schedule, of rules::check, of offers::compare with the part of offers::better, of
 // calendar::schedule_by_calendar, or of codec::write.
 use libc::STDIN_FILENO;
@@ -16,6 +17,7 @@ use model::MOST_PRICE;
 use model::Mills;
 use model::OLD_HOUR_BYTES;
 use model::OLD_SECTIONS;
+use model::OLD_UNIT_BYTES;
 use model::Outcome;
 use model::Output;
 use model::PAIR_BYTES;
@@ -29,15 +31,17 @@ use model::Verdict;
 use model::WORK;
 use model::Written;
 
-// The hours of the source's day, and the bytes of its unit and of its trajectories, which have six outputs; the bytes
-// of its case in the old form and in form 2.
+// The hours of the source's day, and the bytes of its trajectories, which have six outputs; the bytes of its case in
+// the old form and in form 3.
 const DAY: usize = 24;
 
-const UNIT: usize = UNIT_BYTES + 6 * STAGE_BYTES;
+const TRAJECTORIES: usize = 6 * STAGE_BYTES;
 
-const SOURCE: usize = PAIR_BYTES * OLD_SECTIONS + UNIT + DAY * OLD_HOUR_BYTES;
+const SOURCE: usize =
+    PAIR_BYTES * OLD_SECTIONS + OLD_UNIT_BYTES + TRAJECTORIES + DAY * OLD_HOUR_BYTES;
 
-const SOURCE_TWO: usize = PAIR_BYTES * SECTIONS + UNIT + DAY * HOUR_BYTES + FORM_BYTES;
+const SOURCE_NEW: usize =
+    PAIR_BYTES * SECTIONS + UNIT_BYTES + TRAJECTORIES + DAY * HOUR_BYTES + FORM_BYTES;
 
 // A word, and a number after it.
 fn print_number(word: &[u8], n: u64) {
@@ -182,6 +186,8 @@ fn priced(
         stopcost: Mills(2),
         initial: initial,
         elapsed: elapsed,
+        upstage: 0,
+        downstage: 0,
         rise: rise,
         fall: fall,
         prices: prices,
@@ -265,7 +271,7 @@ fn print_pairs() {
     print_better(b"equal profit", level(), &[2u16], &[3u16]);
     print_better(b"equal profit", level(), &[3u16], &[2u16]);
     print_better(b"identical", level(), &[2u16], &[2u16]);
-    print_better(b"neither passes", level(), &[4u16], &[1u16]);
+    print_better(b"neither passes", level(), &[4u16], &[0u16]);
 }
 
 // A first and a second list of another length; and a case that is refused, which comes before 9.
@@ -447,19 +453,153 @@ fn twice(prices: [Mills; HOURS]) -> [Mills; HOURS] {
     both
 }
 
-// The source's case written, and read again in form 2; a form that there is not.
+// The source's case written, and read again in form 3; a form that has another unit, and one that there is not.
 fn print_forms(file: &[u8]) {
     let reading = codec::read(file);
     let case = reading.case;
-    let mut bytes = [0u8; SOURCE_TWO];
+    let mut bytes = [0u8; SOURCE_NEW];
     match codec::write(case, &mut bytes) {
-        Written::Bytes(n) => print_number(b"source, bytes of form 2: ", n as u64),
+        Written::Bytes(n) => print_number(b"source, bytes of form 3: ", n as u64),
         Written::Refused(number) => print_number(b"source, not written: ", number as u64),
     }
     io::write_all(STDOUT_FILENO, b"\n");
-    print_best(b"source, form 2", codec::read(&bytes));
-    bytes[SOURCE_TWO - FORM_BYTES] = 3;
     print_best(b"source, form 3", codec::read(&bytes));
+    bytes[SOURCE_NEW - FORM_BYTES] = 2;
+    print_best(b"source, form 2 with a unit of 34 bytes", codec::read(&bytes));
+    bytes[SOURCE_NEW - FORM_BYTES] = 4;
+    print_best(b"source, form 4", codec::read(&bytes));
+}
+
+// A unit with three outputs to a trajectory, of which 2 MW is one of both, on a day at one price: p(0), h, start-up
+// stage, shut-down stage, minimum up time, T.
+fn staged(
+    initial: Output,
+    elapsed: Hour,
+    upstage: u8,
+    downstage: u8,
+    minup: Hour,
+    hours: usize,
+    price: Mills,
+) -> Reading {
+    let mut rise = [Output(0); STAGES];
+    rise[0] = Output(1);
+    rise[1] = Output(2);
+    rise[2] = Output(4);
+    let mut fall = [Output(0); STAGES];
+    fall[0] = Output(4);
+    fall[1] = Output(2);
+    fall[2] = Output(1);
+    codec::admit(Case {
+        capacity: Output(6),
+        minimum: Output(4),
+        rampup: Output(2),
+        rampdown: Output(2),
+        minup: minup,
+        mindown: Hour(1),
+        variable: Mills(10),
+        fixed: Mills(1),
+        startcost: Mills(3),
+        stopcost: Mills(2),
+        initial: initial,
+        elapsed: elapsed,
+        upstage: upstage,
+        downstage: downstage,
+        rise: rise,
+        fall: fall,
+        prices: [price; HOURS],
+        orders: [0u8; HOURS],
+        rises: 3,
+        falls: 3,
+        hours: hours,
+    })
+}
+
+// The best list of two hours at a price of F from an opening, or the refusal of the opening.
+fn print_opening(name: &[u8], initial: Output, elapsed: Hour, upstage: u8, downstage: u8) {
+    print_best(
+        name,
+        staged(initial, elapsed, upstage, downstage, Hour(1), 2, Mills(10)),
+    );
+}
+
+// Each stage of a start-up and of a shut-down.
+fn print_openings() {
+    print_opening(b"start-up stage 1", Output(1), Hour(1), 1, 0);
+    print_opening(b"start-up stage 2", Output(2), Hour(2), 2, 0);
+    print_opening(b"shut-down stage 2", Output(2), Hour(4), 0, 2);
+    print_opening(b"shut-down stage 3", Output(1), Hour(5), 0, 3);
+    print_opening(b"h 10000", Output(1), Hour(10000), 0, 3);
+}
+
+// 7: each condition of a stage.
+fn print_stages() {
+    print_opening(b"both stages", Output(2), Hour(2), 2, 2);
+    print_opening(b"start-up stage 3 of 3", Output(4), Hour(3), 3, 0);
+    print_opening(b"not the output of stage 1", Output(2), Hour(1), 1, 0);
+    print_opening(b"h not stage 2", Output(2), Hour(3), 2, 0);
+    print_opening(b"shut-down stage 1", Output(4), Hour(4), 0, 1);
+    print_opening(b"shut-down stage 4 of 3", Output(1), Hour(9), 0, 4);
+    print_opening(b"not the output of stage 3", Output(2), Hour(5), 0, 3);
+    print_opening(b"h below UD + stage - 1", Output(1), Hour(4), 0, 3);
+    print_opening(b"h 10001", Output(1), Hour(10001), 0, 3);
+    print_opening(b"2 MW without a stage", Output(2), Hour(9), 0, 0);
+}
+
+// Days that close at each output of a shut-down, and after it; a shut-down that goes on past the day; one whose stop
+// comes before the minimum up time.
+fn print_closings() {
+    let low = Output(4);
+    let five = Mills(5);
+    print_best(
+        b"closes at PD(2)",
+        staged(low, Hour(3), 0, 0, Hour(1), 1, five),
+    );
+    print_best(
+        b"closes at PD(3)",
+        staged(low, Hour(3), 0, 0, Hour(1), 2, five),
+    );
+    print_best(
+        b"closes at 0",
+        staged(low, Hour(3), 0, 0, Hour(1), 3, five),
+    );
+    print_best(
+        b"opens and closes in a shut-down",
+        staged(Output(2), Hour(4), 0, 2, Hour(1), 1, five),
+    );
+    print_best(
+        b"opening stop too early",
+        staged(Output(2), Hour(4), 0, 2, Hour(6), 2, five),
+    );
+    print_best(
+        b"opening stop late enough",
+        staged(Output(2), Hour(4), 0, 2, Hour(5), 2, five),
+    );
+}
+
+// 2 MW is PU(2) in a start-up and PD(2) after it; rule 21 at the stop after T, which stands at hour 6.
+fn print_shared() {
+    let off = Output(0);
+    let ten = Mills(10);
+    print_check(
+        b"2 MW in a start-up",
+        staged(off, Hour(1), 0, 0, Hour(8), 2, ten),
+        &[1u16, 2],
+    );
+    print_check(
+        b"2 MW after a start-up",
+        staged(off, Hour(1), 0, 0, Hour(5), 4, ten),
+        &[1u16, 2, 4, 2],
+    );
+    print_check(
+        b"stop after T too early",
+        staged(off, Hour(1), 0, 0, Hour(6), 4, ten),
+        &[1u16, 2, 4, 2],
+    );
+    print_check(
+        b"2 MW from above",
+        staged(Output(5), Hour(9), 0, 0, Hour(1), 1, ten),
+        &[2u16],
+    );
 }
 
 // The source's day, and its day twice.
@@ -522,6 +662,10 @@ fn main() {
     print_other_day();
     print_misplaced();
     print_edges();
+    print_openings();
+    print_stages();
+    print_closings();
+    print_shared();
     let mut file = [0u8; SOURCE + 1];
     let n = io::read_full(STDIN_FILENO, &mut file);
     print_source(&file[..n]);

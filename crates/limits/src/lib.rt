@@ -3,12 +3,12 @@
 ghost use mathlib.Core.Bool.{false, cond};
 ghost use mathlib.Core.Path.{_≡_};
 ghost use Prim.Native.Nat.{suc, _≤_, _<_};
-ghost use lib.Dec.{leb, ltb};
+ghost use lib.Dec.{leb, eqb};
 ghost use lib.IntN.{pos, negℤ};
 ghost use Rattle.model.specs.Limits.{mostStages, mostHours, mostPrice, mostOrder};
 ghost use Rattle.model.specs.Symbols.{every, stage, hourly, priced};
 ghost use Rattle.model.specs.Refusals.{within, amounts, refusal2, refusal3, refusal4, refusal5, refusal6, refusal7};
-ghost use Rattle.model.specs.Refusals.{refusal8, refusal13, climbs, descends, refusalOf};
+ghost use Rattle.model.specs.Refusals.{refusal8, refusal13, climbs, descends, opensFree, opensUp, opensDown, refusalOf};
 ghost use Rattle.limits.specs.Steps.{stepped};
 use model::Case;
 use model::HOURS;
@@ -135,21 +135,75 @@ fn refusal6(case: Case) -> bool
     !(climbs(case) & descends(case))
 }
 
-// Whether these hours are fewer than a count.
-fn fewer(hours: Hour, n: usize) -> bool
-    ensures { λ r. ⌜ r ≡ ltb (hours .0) n ⌝ }
+// Hours, and a stage, as a count.
+fn hours_of(hours: Hour) -> usize
+    ensures { λ r. ⌜ r ≡ hours .0 ⌝ }
 {
-    (hours.0 as usize) < n
+    hours.0 as usize
 }
 
-// h, p(0), and p(0) above 0 with h below UD.
-fn refusal7(case: Case) -> bool
-    ensures { λ r. ⌜ r ≡ refusal7 case ⌝ }
+fn stage_of(stage: u8) -> usize
+    ensures { λ r. ⌜ r ≡ stage ⌝ }
+{
+    stage as usize
+}
+
+// Whether p(0) is the output at a stage of a trajectory, counted from 1.
+fn opens_at(case: Case, outputs: [Output; STAGES], i: usize) -> bool
+    requires { ⌜ (1 ≤ i) × (i ≤ mostStages) ⌝ }
+    ensures { λ r. ⌜ r ≡ eqb (case .initial .0) (stage outputs i) ⌝ }
+{
+    let output = outputs[i - 1];
+    case.initial.0 == output.0
+}
+
+// The day opens in no sequence.
+fn opens_free(case: Case) -> bool
+    ensures { λ r. ⌜ r ≡ opensFree case ⌝ }
 {
     let output = case.initial.0;
-    let open = (output == 0) | between(output, case.minimum.0, case.capacity.0);
-    !between(case.elapsed.0, 1, MOST_ELAPSED)
-        | (!open | ((0 < output) & fewer(case.elapsed, case.rises)))
+    let running = between(output, case.minimum.0, case.capacity.0);
+    let risen = case.rises <= hours_of(case.elapsed);
+    (case.upstage == 0) & ((case.downstage == 0) & ((output == 0) | (running & risen)))
+}
+
+// It opens in a start-up, of a count that 2 does not refuse.
+fn opens_up(case: Case) -> bool
+    requires { ⌜ refusal2 case ≡ false ⌝ }
+    ensures { λ r. ⌜ r ≡ opensUp case ⌝ }
+{
+    let rise = case.rise;
+    let stage = stage_of(case.upstage);
+    if !counted(stage, case.rises - 1) {
+        return false;
+    }
+    let output = opens_at(case, rise, stage);
+    let hours = hours_of(case.elapsed) == stage;
+    (case.downstage == 0) & (output & hours)
+}
+
+// It opens in a shut-down, of a count that 2 does not refuse.
+fn opens_down(case: Case) -> bool
+    requires { ⌜ refusal2 case ≡ false ⌝ }
+    ensures { λ r. ⌜ r ≡ opensDown case ⌝ }
+{
+    let fall = case.fall;
+    let stage = stage_of(case.downstage);
+    if !((2 <= stage) & (stage <= case.falls)) {
+        return false;
+    }
+    let output = opens_at(case, fall, stage);
+    let hours = case.rises + stage - 1 <= hours_of(case.elapsed);
+    (case.upstage == 0) & (output & hours)
+}
+
+// h, and the opening: in no sequence, in a start-up or in a shut-down.
+fn refusal7(case: Case) -> bool
+    requires { ⌜ refusal2 case ≡ false ⌝ }
+    ensures { λ r. ⌜ r ≡ refusal7 case ⌝ }
+{
+    let held = between(case.elapsed.0, 1, MOST_ELAPSED);
+    !(held & (opens_free(case) | (opens_up(case) | opens_down(case))))
 }
 
 // Whether each of the first n order bytes is 0, 1 or 2.

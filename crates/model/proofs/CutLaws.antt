@@ -75,7 +75,7 @@ unfolding zeroed
 zeroed-own c r f p o = rw (r, f, p, o)
 
 -- the record of a file has zeros past its counts
-module _ (f : Form) (file : List ℕ) (known : Known f) (whole : Whole f file) where
+module _ (f : Form) (file : List ℕ) (known : Known file f) (whole : Whole f file) where
   rises-le : entriesAt f file 1 ≤ mostStages
   rises-le = whole .entries-in 1 (omega (arith, four-sections known)) .1
 
@@ -145,6 +145,8 @@ zeros =
       stopcost = noMills;
       initial = noOutput;
       elapsed = record { 0 = 0 };
+      upstage = 0;
+      downstage = 0;
       rise = replicate mostStages noOutput;
       fall = replicate mostStages noOutput;
       prices = replicate mostHours noMills;

@@ -2,7 +2,7 @@
 -- every table of widths. Assumes nothing.
 use mathlib.Core.Path.{_≡_, refl, sym, ap, _∙_}
 use mathlib.Core.List.{List, [], _∷_, _++_, append-assoc, append-nil}
-use Prim.Native.Nat.{ℕ, zero, suc, _+_, _*_, _-_, _^_, _≤_, _<_}
+use Prim.Native.Nat.{ℕ, zero, suc, _+_, _*_, _^_, _≤_, _<_}
 use native.Mathlib.Nat.{mul-suc, mul-le-mul-left}
 use native.Mathlib.Omega.{arith}
 use lib.ListN.{length, getD, take, drop, length-append}
@@ -56,6 +56,13 @@ fieldAt-part (w ∷ ws) s at base size zero h = numberAt-part s at size base w (
 fieldAt-part (w ∷ ws) s at base size (suc j) h =
     let e : at + base + w ≡ at + (base + w) = omega arith in
     rw e (fieldAt-part ws s at (base + w) size j (omega arith))
+
+-- a field that an entry does not have
+pub fieldAt-past : (ws s : List ℕ) (at j : ℕ) → length ws ≤ j → fieldAt ws s at j ≡ 0
+unfolding fieldAt
+fieldAt-past [] s at j h = refl
+fieldAt-past (w ∷ ws) s at zero h = absurd (omega arith)
+fieldAt-past (w ∷ ws) s at (suc j) h = fieldAt-past ws s (at + w) j (omega arith)
 
 -- field j of entry k of n entries
 pub fieldAt-entry : (ws : List ℕ) (f : ℕ → List ℕ) (n k j : ℕ) → k < n → j < length ws → j < length (f k)

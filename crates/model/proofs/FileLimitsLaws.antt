@@ -1,7 +1,7 @@
 -- The refusal of a file is the first number whose published limits it does not keep. Assumes nothing.
 use mathlib.Core.Path.{_≡_, refl, sym, ap, _∙_}
-use mathlib.Core.Logic.{_↔_, ⊎-elim}
-use mathlib.Core.Bool.{Bool, true, false, _||_}
+use mathlib.Core.Logic.{_↔_, ⊎-elim, inl, inr}
+use mathlib.Core.Bool.{Bool, true, false, _||_, not}
 use mathlib.Core.List.{List}
 use Prim.Native.Nat.{ℕ, zero, suc, _+_, _*_, _-_, _<_}
 use native.Mathlib.Omega.{arith}
@@ -10,23 +10,25 @@ use lib.Dec.{T, eqb, eqb·suc-zero}
 use lib.ListN.{length}
 use Rattle.model.specs.declared.Case.{Case}
 use Rattle.model.specs.Limits.{mostStages, mostHours}
-use Rattle.model.specs.Symbols.{every}
-use Rattle.model.specs.Forms.{oldForm, newest, unknown}
-use Rattle.model.specs.Layout.{numberAt, offsetAt, lengthAt, endAt, sectionAt, formNumberAt, formOf, caseIn}
-use Rattle.model.specs.Layout.{caseOf}
-use Rattle.model.specs.Refusals.{within, fits, refusal1, refusal2File, refusal12, firstOf, fileTests, refusalOf}
+use Rattle.model.specs.Symbols.{every, before}
+use Rattle.model.specs.Forms.{Form, unknown}
+use Rattle.model.specs.Layout.{offsetAt, lengthAt, endAt, formNumberAt, caseIn, caseOf}
+use Rattle.model.specs.Refusals.{within, fits, refusal1, fitting, refusal2File, refusal12, firstOf, fileTests}
+use Rattle.model.specs.Refusals.{refusalOf}
 use Rattle.model.specs.Answers.{readingOf, readOf, outcomeNumber}
 use Rattle.model.specs.Published.{Counts, Limited, limit2, limit3, limit4, limit5, limit6, limit7, limit8}
 use Rattle.model.specs.Published.{limit13, FirstRefused, later, fileOrder}
-use Rattle.model.specs.Published.{word, Chained, Measured, Holds, FileLimited, file1, file2, file12, held}
+use Rattle.model.specs.Published.{word, old, Chained, Measured, Holds, FileLimited, file1, file2, file12, held}
 use Rattle.model.proofs.RefusalsLaws.{first-exactly, first-cond, first-rest, first-same, fits-times}
 use Rattle.model.proofs.LimitsLaws.{Between}
 use Rattle.model.proofs.LimitedLaws.{refusalOf-first}
-use Rattle.model.proofs.LayoutLaws.{numberAt-part}
-use Rattle.model.proofs.FormsLaws.{oldFront, front, four-sections, known, formOf-old, formOf-new}
+use Rattle.model.proofs.FormsLaws.{oldFront, front, Known, is-old, is-two, is-new, four-sections, known}
+use Rattle.model.proofs.FormsLaws.{formOf-old, length-numbered}
 use Rattle.model.proofs.AcceptedLaws.{linked, whole, number-known}
 use Rattle.model.proofs.SameLimitsLaws.{limited-same}
-use Rattle.model.proofs.HoldsLaws.{numberAt-word, offset-word, length-word, end-word, chained-of, holds-caseOf}
+use Rattle.model.proofs.PublishedLaws.{offset-word, length-word, end-word, last-bytes, first-late}
+use Rattle.model.proofs.PublishedLaws.{two-stageless, new-staged}
+use Rattle.model.proofs.HoldsLaws.{chained-of, holds-caseOf}
 
 -- the numbers that are a record's own in a file: those of a record but 2
 abbrev own : ℕ → Bool
@@ -47,12 +49,6 @@ counts-of (limit2 n) = n
 
 module _ (s : List ℕ) where
   -- ---- a chained file is not refused by 1
-  first-old : word s 0 ≡ oldFront → formOf s ≡ oldForm
-  first-old e = formOf-old s (offset-word s 0 ∙ e)
-
-  first-new : word s 0 ≡ front → formOf s ≡ newest .1
-  first-new e = formOf-new s (λ z. omega (arith, offset-word s 0))
-
   begins : (i : ℕ) → word s (4 * suc i) ≡ word s (4 * i) + word s (4 * i + 2)
       → eqb (offsetAt s (suc i)) (endAt s i) ≡ true
   begins i e = eq-eqb (offsetAt s (suc i)) (endAt s i) (offset-word s (suc i) ∙ e ∙ sym (end-word s i))
@@ -64,7 +60,7 @@ module _ (s : List ℕ) where
       as-old : word s 0 ≡ oldFront → refusal1 s ≡ false
       as-old e =
           rw (
-            first-old e,
+            formOf-old s (offset-word s 0 ∙ e),
             le-leb oldFront (length s) (omega (arith, c .pairs)),
             eq-eqb (offsetAt s 0) oldFront (offset-word s 0 ∙ e),
             begins 0 (c .rise),
@@ -76,7 +72,7 @@ module _ (s : List ℕ) where
       as-new : word s 0 ≡ front → refusal1 s ≡ false
       as-new e =
           rw (
-            first-new e,
+            length-numbered s (λ z. omega (arith, offset-word s 0)),
             le-leb front (length s) (omega (arith, c .pairs)),
             eq-eqb (offsetAt s 0) front (offset-word s 0 ∙ e),
             begins 0 (c .rise),
@@ -92,10 +88,10 @@ module _ (s : List ℕ) where
 
   refusal2-measured : Chained s → (c : Case) → Measured s c → Counts c → refusal2File s ≡ false
   unfolding refusal2File every
-  refusal2-measured chained c m n = ⊎-elim as-old as-new (chained .forms)
+  refusal2-measured chained c m n = go (known s)
     where
-      unit : fits 32 1 (lengthAt s 0) ≡ true
-      unit = fits-of 32 1 1 0 (omega arith) (length-word s 0 ∙ m .unit) (omega arith)
+      unit : (w : ℕ) → 0 < w → word s 2 ≡ w → fits w 1 (lengthAt s 0) ≡ true
+      unit w h e = fits-of w 1 1 0 h (omega (arith, length-word s 0)) (omega arith)
 
       rise : fits 2 mostStages (lengthAt s 1) ≡ true
       rise = fits-of 2 mostStages (c .rises) 1 (omega arith) (length-word s 1 ∙ m .rise) (n .rises)
@@ -103,16 +99,37 @@ module _ (s : List ℕ) where
       fall : fits 2 mostStages (lengthAt s 2) ≡ true
       fall = fits-of 2 mostStages (c .falls) 2 (omega arith) (length-word s 2 ∙ m .fall) (n .falls)
 
-      as-old : word s 0 ≡ oldFront → refusal2File s ≡ false
-      as-old e =
-          let hours = fits-of 3 mostHours (c .hours) 3 (omega arith) (length-word s 3 ∙ m .old-hours e) (n .hours) in
-          rw (first-old e, unit, rise, fall, hours)
+      old-hours : word s 0 ≡ oldFront → fits 3 mostHours (lengthAt s 3) ≡ true
+      old-hours e = fits-of 3 mostHours (c .hours) 3 (omega arith) (length-word s 3 ∙ m .old-hours e) (n .hours)
 
-      as-new : word s 0 ≡ front → refusal2File s ≡ false
-      as-new e =
-          let hours = fits-of 5 mostHours (c .hours) 3 (omega arith) (length-word s 3 ∙ m .hours e) (n .hours) in
-          let form = fits-of 2 1 1 4 (omega arith) (length-word s 4 ∙ m .form e) (omega arith) in
-          rw (first-new e, unit, rise, fall, hours, form)
+      hours : word s 0 ≡ front → fits 5 mostHours (lengthAt s 3) ≡ true
+      hours e = fits-of 5 mostHours (c .hours) 3 (omega arith) (length-word s 3 ∙ m .hours e) (n .hours)
+
+      form : word s 0 ≡ front → fits 2 1 (lengthAt s 4) ≡ true
+      form e = fits-of 2 1 1 4 (omega arith) (length-word s 4 ∙ m .form e) (omega arith)
+
+      go : {f : Form} → Known s f → not (every (λ i. fitting s f (before i)) (length f)) ≡ false
+      go (is-old d) =
+          let first = sym (offset-word s 0) ∙ d in
+          rw (unit 32 (omega arith) (m .old-unit (old first)), rise, fall, old-hours first)
+      go (is-two d k) =
+          let first = first-late s chained (m .form) d in
+          rw (
+            unit 32 (omega arith) (m .old-unit (two-stageless s chained (m .form) d k)),
+            rise,
+            fall,
+            hours first,
+            form first,
+          )
+      go (is-new d k) =
+          let first = first-late s chained (m .form) d in
+          rw (
+            unit 34 (omega arith) (m .unit (new-staged s chained (m .form) d k)),
+            rise,
+            fall,
+            hours first,
+            form first,
+          )
 
   -- ---- what neither 1 nor 2 refuses
   module _ (e : refusal1 s ≡ false) (d : refusal2File s ≡ false) where
@@ -131,28 +148,21 @@ module _ (s : List ℕ) where
         }
 
     -- the form number is the last two bytes
-    last-bytes : word s 0 ≡ front → formNumberAt s ≡ word s (length s - 2)
-    unfolding formNumberAt sectionAt
-    last-bytes first =
-        let c = holds .chained in
-        let m = holds .measured in
-        let at : offsetAt s 4 + 0 ≡ length s - 2 =
-        omega (arith, offset-word s 4, c .end first, m .form first) in
-        sym (numberAt-part s (offsetAt s 4) (lengthAt s 4) 0 2 (omega (arith, length-word s 4, m .form first)))
-        ∙ ap (λ x. numberAt s x 2) at ∙ numberAt-word s (length s - 2)
+    last : word s 0 ≡ front → formNumberAt s ≡ word s (length s - 2)
+    last = last-bytes s (holds .chained) (holds .measured .form)
 
     limited12 : refusal12 s ≡ false → FileLimited s 12
-    limited12 t =
-        file12 (λ first. sym (last-bytes first) ∙ number-known s (λ z. omega (arith, offset-word s 0)) t)
+    limited12 t = file12 (λ first. ⊎-elim (λ n. inl (sym (last first) ∙ n)) (λ n. inr (sym (last first) ∙ n))
+        (number-known s (λ z. omega (arith, offset-word s 0)) t))
 
     passes12 : FileLimited s 12 → refusal12 s ≡ false
     unfolding refusal12 unknown
     passes12 (file12 l) = ⊎-elim
         (λ first. rw (eq-eqb (offsetAt s 0) oldFront (offset-word s 0 ∙ first)))
-        (λ first. rw (
-          ne-eqb (offsetAt s 0) oldFront (λ z. omega (arith, offset-word s 0)),
-          eq-eqb (formNumberAt s) 2 (last-bytes first ∙ l first),
-        ))
+        (λ first. ⊎-elim
+        (λ n. rw (ne-eqb (offsetAt s 0) oldFront (λ z. omega (arith, offset-word s 0)), last first ∙ n))
+        (λ n. rw (ne-eqb (offsetAt s 0) oldFront (λ z. omega (arith, offset-word s 0)), last first ∙ n))
+        (l first))
         (holds .chained .forms)
     passes12 (held n c k l) = absurd (limited-own l)
 

@@ -1,71 +1,148 @@
 -- Laws of the forms: which one a file has, and signed 32-bit numbers by their bits. Assumes nothing.
-use mathlib.Core.Path.{_≡_, refl, sym, ap, _∙_, subst}
+use mathlib.Core.Path.{_≡_, refl, ap, _∙_}
+use mathlib.Core.Logic.{_⊎_, inl, inr}
 use mathlib.Core.Bool.{Bool, true, false, cond, true≢false}
-use mathlib.Core.List.{List, [], _∷_}
+use mathlib.Core.List.{List, [], _∷_, _++_}
 use Prim.Native.Nat.{ℕ, suc, _-_, _<_, _≤_}
 use native.Mathlib.Decide.{ℕ-discrete, decLt}
 use native.Mathlib.Omega.{arith}
-use borrow.Author.Tests.{eq-eqb, ne-eqb, eqb-true, lt-ltb, le-ltb}
-use lib.Dec.{eqb}
+use borrow.Author.Tests.{eq-eqb, ne-eqb, lt-ltb, le-ltb, ltb-true}
+use lib.Dec.{ltb, eqb}
 use lib.IntN.{ℤ, pos, negsuc, natAbs, _-ℤ_}
 use lib.ListN.{length}
 use Rattle.laws.proofs.Signed.{up, down, parts-eq, parts--}
 use Rattle.model.specs.Limits.{longs, halfLongs}
-use Rattle.model.specs.Forms.{Form, unitWidths, oldForm, newest, numbered, formNumbered, unknown, pairsLength}
+use Rattle.model.specs.Symbols.{every, before}
+use Rattle.model.specs.Forms.{Form, unitWidths, formWith, oldForm, form2, newest, numbered, formNumbered, unknown}
+use Rattle.model.specs.Forms.{entryLength, pairsLength}
 use Rattle.model.specs.Layout.{offsetAt, formNumberAt, formOf, signed, unsigned}
+use Rattle.model.proofs.LimitsLaws.{every-true}
 
 -- ---- the form of a file
--- the forms differ in the width of a price and in what follows the hours
-abbrev pub pricedForm : ℕ → Form → Form
-pricedForm w tail = unitWidths ∷ (2 ∷ []) ∷ (2 ∷ []) ∷ (w ∷ 1 ∷ []) ∷ tail
+-- the forms differ in the stages that follow the unit's other fields, in the width of a price and in what follows the
+-- hours
+abbrev pub formed : List ℕ → ℕ → Form → Form
+formed stages price more = formWith (unitWidths ++ stages) price more
 
--- where the unit begins in the old form, and in the newest
+-- the stages of form 3, and the form section, which follows the hours in the forms that hold their number
+abbrev pub stageWidths : List ℕ
+stageWidths = 1 ∷ 1 ∷ []
+
+abbrev pub numberSection : Form
+numberSection = (2 ∷ []) ∷ []
+
+-- where the unit begins in the old form, and in those that hold their number
 abbrev pub oldFront : ℕ
-oldFront = pairsLength oldForm
+oldFront = pairsLength (oldForm .1)
 
 abbrev pub front : ℕ
 front = pairsLength (newest .1)
 
--- a form that a file can have
-pub data Known : Form → Type 0 where
-  old : Known oldForm
-  new : Known (newest .1)
+-- a form that a file has, and how it shows
+pub data Known (file : List ℕ) : Form → Type 0 where
+  is-old : offsetAt file 0 ≡ oldFront → Known file (oldForm .1)
+  is-two : (offsetAt file 0 ≡ oldFront → ⊥) → formNumberAt file ≡ form2 .0 → Known file (form2 .1)
+  is-new : (offsetAt file 0 ≡ oldFront → ⊥) → (formNumberAt file ≡ form2 .0 → ⊥) → Known file (newest .1)
 
-pub four-sections : {f : Form} → Known f → 4 ≤ length f
-four-sections old = omega arith
-four-sections new = omega arith
+pub four-sections : {file : List ℕ} {f : Form} → Known file f → 4 ≤ length f
+four-sections (is-old d) = omega arith
+four-sections (is-two d n) = omega arith
+four-sections (is-new d n) = omega arith
 
-pub formNumbered-newest : (n : ℕ) → formNumbered numbered n ≡ newest .1
+pub five-sections : {file : List ℕ} {f : Form} → Known file f → length f ≤ 5
+five-sections (is-old d) = omega arith
+five-sections (is-two d n) = omega arith
+five-sections (is-new d n) = omega arith
+
+-- every section has bytes
+all-wide : {file : List ℕ} {f : Form} → Known file f → every (λ i. ltb 0 (entryLength f (before i))) (length f) ≡ true
+unfolding every
+all-wide (is-old d) = refl
+all-wide (is-two d n) = refl
+all-wide (is-new d n) = refl
+
+pub wide : {file : List ℕ} {f : Form} → Known file f → (i : ℕ) → i < length f → 0 < entryLength f i
+wide {file} {f} k i h = ltb-true 0 (entryLength f i) (every-true _ (length f) (all-wide k) (suc i) (omega arith) h)
+
+formNumbered-two : (n : ℕ) → n ≡ form2 .0 → formNumbered numbered n ≡ form2 .1
 unfolding formNumbered
-formNumbered-newest n = go (eqb n (newest .0))
+formNumbered-two n e = rw e
+
+-- every other number is measured by the newest form
+formNumbered-new : (n : ℕ) → (n ≡ form2 .0 → ⊥) → formNumbered numbered n ≡ newest .1
+unfolding formNumbered
+formNumbered-new n h = rw (ne-eqb n (form2 .0) h) (go (eqb n (newest .0)))
   where
     go : (t : Bool) → cond {A = Form} t (newest .1) (newest .1) ≡ newest .1
     go true = refl
     go false = refl
 
--- a number that some form has is that of the newest
-pub unknown-false : (n : ℕ) → unknown numbered n ≡ false → n ≡ newest .0
+-- a number that some form has
+pub unknown-false : (n : ℕ) → unknown numbered n ≡ false → (n ≡ form2 .0) ⊎ (n ≡ newest .0)
 unfolding unknown
-unknown-false n e = go (eqb n (newest .0)) refl e
+unknown-false n e = go (ℕ-discrete n (form2 .0)) (ℕ-discrete n (newest .0))
   where
-    go : (t : Bool) → eqb n (newest .0) ≡ t → unknown numbered n ≡ false → n ≡ newest .0
-    go true d e = eqb-true n (newest .0) d
-    go false d e = absurd (true≢false (rw d at e))
+    go : Dec (n ≡ form2 .0) → Dec (n ≡ newest .0) → (n ≡ form2 .0) ⊎ (n ≡ newest .0)
+    go (yes d) k = inl d
+    go (no d) (yes k) = inr k
+    go (no d) (no k) = absurd (true≢false (rw (ne-eqb n (newest .0) k, ne-eqb n (form2 .0) d) at e))
 
-pub formOf-old : (file : List ℕ) → offsetAt file 0 ≡ oldFront → formOf file ≡ oldForm
+pub known : (file : List ℕ) → Known file (formOf file)
 unfolding formOf
-formOf-old file e = rw (eq-eqb (offsetAt file 0) oldFront e)
-
-pub formOf-new : (file : List ℕ) → (offsetAt file 0 ≡ oldFront → ⊥) → formOf file ≡ newest .1
-unfolding formOf
-formOf-new file h = rw (ne-eqb (offsetAt file 0) oldFront h) (formNumbered-newest (formNumberAt file))
-
-pub known : (file : List ℕ) → Known (formOf file)
-known file = go (ℕ-discrete (offsetAt file 0) oldFront)
+known file = go (ℕ-discrete (offsetAt file 0) oldFront) (ℕ-discrete (formNumberAt file) (form2 .0))
   where
-    go : Dec (offsetAt file 0 ≡ oldFront) → Known (formOf file)
-    go (yes e) = subst Known (sym (formOf-old file e)) old
-    go (no h) = subst Known (sym (formOf-new file h)) new
+    go : Dec (offsetAt file 0 ≡ oldFront) → Dec (formNumberAt file ≡ form2 .0) → Known file (formOf file)
+    go (yes d) k = rw (eq-eqb (offsetAt file 0) oldFront d) (is-old d)
+    go (no d) (yes n) =
+        rw (ne-eqb (offsetAt file 0) oldFront d, formNumbered-two (formNumberAt file) n) (is-two d n)
+    go (no d) (no n) =
+        rw (ne-eqb (offsetAt file 0) oldFront d, formNumbered-new (formNumberAt file) n) (is-new d n)
+
+-- a file's form, from what it shows
+module _ (file : List ℕ) where
+  pub formOf-old : offsetAt file 0 ≡ oldFront → formOf file ≡ oldForm .1
+  formOf-old e = go (known file)
+    where
+      go : {f : Form} → Known file f → f ≡ oldForm .1
+      go (is-old d) = refl
+      go (is-two d n) = absurd (d e)
+      go (is-new d n) = absurd (d e)
+
+  pub formOf-two : (offsetAt file 0 ≡ oldFront → ⊥) → formNumberAt file ≡ form2 .0 → formOf file ≡ form2 .1
+  formOf-two h m = go (known file)
+    where
+      go : {f : Form} → Known file f → f ≡ form2 .1
+      go (is-old d) = absurd (h d)
+      go (is-two d n) = refl
+      go (is-new d n) = absurd (n m)
+
+  pub formOf-new : (offsetAt file 0 ≡ oldFront → ⊥) → (formNumberAt file ≡ form2 .0 → ⊥) → formOf file ≡ newest .1
+  formOf-new h m = go (known file)
+    where
+      go : {f : Form} → Known file f → f ≡ newest .1
+      go (is-old d) = absurd (h d)
+      go (is-two d n) = absurd (m n)
+      go (is-new d n) = refl
+
+  -- the forms that hold their number have five sections
+  pub length-numbered : (offsetAt file 0 ≡ oldFront → ⊥) → length (formOf file) ≡ 5
+  length-numbered h = go (known file)
+    where
+      go : {f : Form} → Known file f → length f ≡ 5
+      go (is-old d) = absurd (h d)
+      go (is-two d n) = refl
+      go (is-new d n) = refl
+
+  -- and the old form alone has four
+  pub four-old : length (formOf file) ≡ 4 → offsetAt file 0 ≡ oldFront
+  four-old e = go (ℕ-discrete (offsetAt file 0) oldFront)
+    where
+      go : Dec (offsetAt file 0 ≡ oldFront) → offsetAt file 0 ≡ oldFront
+      go (yes d) = d
+      go (no h) = absurd (omega (arith, length-numbered h))
+
+  pub more-late : (length (formOf file) ≡ 4 → ⊥) → offsetAt file 0 ≡ oldFront → ⊥
+  more-late h e = h (ap length (formOf-old e))
 
 -- ---- signed numbers
 pub signed-low : (n : ℕ) → n < halfLongs → signed n ≡ pos n

@@ -1,63 +1,31 @@
 -- The numbers of a file by its bytes: those of its sections stand at their offsets, so a whole file holds its record,
 -- and the file of a record within the limits holds that record. Assumes nothing.
-use mathlib.Core.Path.{_≡_, sym, ap, _∙_, subst}
+use mathlib.Core.Path.{_≡_, refl, sym, ap, _∙_, subst}
 use mathlib.Core.Logic.{inl, inr}
-use mathlib.Core.List.{List, [], _∷_}
-use Prim.Native.Nat.{ℕ, suc, _+_, _*_, _≤_, _<_}
-use native.Mathlib.Decide.{ℕ-discrete, decLt}
-use native.Mathlib.Nat.{mul-suc, mul-le-mul-left}
-use native.Mathlib.Numerals.{add-one}
+use mathlib.Core.List.{List, [], _++_}
+use Prim.Native.Nat.{ℕ, _+_, _*_, _≤_, _<_}
+use native.Mathlib.Nat.{mul-zero, mul-suc, mul-le-mul-left}
 use native.Mathlib.Omega.{arith}
 use lib.IntN.{ℤ}
 use lib.ListN.{getD}
 use Rattle.model.specs.declared.Case.{Case}
 use Rattle.model.specs.declared.Output.{Output}
-use Rattle.model.specs.Limits.{mostStages, halfLongs}
-use Rattle.model.specs.Forms.{Form, unitWidths, oldForm, newest, width, entryLength}
-use Rattle.model.specs.Layout.{numberAt, offsetAt, lengthAt, endAt, padded, noOutput, noMills, signed, zeroed}
-use Rattle.model.specs.Layout.{bytesOf, sectionAt, fieldAt, formOf, entriesAt, entryAt, caseIn, caseOf}
+use Rattle.model.specs.Limits.{mostStages}
+use Rattle.model.specs.Forms.{Form, unitWidths, oldForm, width, entryLength}
+use Rattle.model.specs.Layout.{numberAt, offsetAt, lengthAt, padded, noOutput, noMills, signed, zeroed, bytesOf}
+use Rattle.model.specs.Layout.{sectionAt, fieldAt, formOf, entriesAt, entryAt, caseIn, caseOf}
 use Rattle.model.specs.Refusals.{refusalOf}
 use Rattle.model.specs.Answers.{readOf, outcomeNumber}
-use Rattle.model.specs.Published.{word, long, Signed, above, below, Chained, Measured, Holds}
-use Rattle.model.proofs.LayoutLaws.{numberAt-suc, numberAt-part, getD-padded-in}
+use Rattle.model.specs.Published.{word, long, Signed, Stageless, old, Chained, Measured, Holds}
+use Rattle.model.proofs.LayoutLaws.{numberAt-part, getD-padded-in}
 use Rattle.model.proofs.NumbersLaws.{numberAt-one}
-use Rattle.model.proofs.FormsLaws.{pricedForm, oldFront, front, formOf-old, formOf-new, signed-low, signed-high}
+use Rattle.model.proofs.FormsLaws.{formed, stageWidths, numberSection, oldFront, front, Known, is-old, is-two}
+use Rattle.model.proofs.FormsLaws.{is-new, known}
+use Rattle.model.proofs.PublishedLaws.{numberAt-word, numberAt-long, offset-word, length-word, end-word}
+use Rattle.model.proofs.PublishedLaws.{signed-of, two-stageless, new-staged}
 use Rattle.model.proofs.RereadLaws.{new-case, new-reads}
 use Rattle.model.proofs.AcceptedLaws.{Linked, Whole, read-accepted}
 use Rattle.model.proofs.CutLaws.{zeroed-caseOf, readOf-accepted}
-
--- ---- numbers by their bytes
-pub numberAt-word : (s : List ℕ) (i : ℕ) → numberAt s i 2 ≡ word s i
-numberAt-word s i = rw add-one (omega (arith, numberAt-suc s i 1, numberAt-one s (suc i)))
-
-pub numberAt-long : (s : List ℕ) (i : ℕ) → numberAt s i 4 ≡ long s i
-numberAt-long s i =
-    let e : i + 2 ≡ suc (suc i) = omega arith in
-    rw (e, ← numberAt-word s (suc (suc i)), add-one)
-    (omega (arith, numberAt-suc s i 3, numberAt-suc s (suc i) 2))
-
-pub offset-word : (s : List ℕ) (i : ℕ) → offsetAt s i ≡ word s (4 * i)
-unfolding offsetAt
-offset-word s i = numberAt-word s (4 * i)
-
-pub length-word : (s : List ℕ) (i : ℕ) → lengthAt s i ≡ word s (4 * i + 2)
-unfolding lengthAt
-length-word s i = numberAt-word s (4 * i + 2)
-
-pub end-word : (s : List ℕ) (i : ℕ) → endAt s i ≡ word s (4 * i) + word s (4 * i + 2)
-unfolding endAt
-end-word s i = rw (offset-word s i, length-word s i)
-
--- a signed number is what its bits say
-signed-view : (n : ℕ) → Signed n (signed n)
-signed-view n = go (decLt n halfLongs)
-  where
-    go : Dec (n < halfLongs) → Signed n (signed n)
-    go (yes l) = subst (Signed n) (sym (signed-low n l)) (above l)
-    go (no l) = subst (Signed n) (sym (signed-high n (omega arith))) (below (omega arith))
-
-signed-of : {n m : ℕ} {z : ℤ} → n ≡ m → signed m ≡ z → Signed n z
-signed-of {n} e d = subst (Signed n) (ap signed e ∙ d) (signed-view n)
 
 -- two padded arrays that are the same, of one count, have the same entries below it
 padded-entry : {X : Type 0} (rest : X) (f g : ℕ → X) {n m size : ℕ} → padded rest f n size ≡ padded rest g m size
@@ -67,11 +35,19 @@ padded-entry rest f g {n} {m} {size} e same room i h =
     ∙ ap (λ l. getD l i rest) e
     ∙ getD-padded-in rest g m size rest i h (omega arith)
 
--- ---- a record whose entries below its counts are those of the file, in a form with prices of w bytes
-module _ (w : ℕ) (tail : Form) (file : List ℕ) (whole : Whole (pricedForm w tail) file) (c : Case)
-    (e : caseIn (pricedForm w tail) file ≡ zeroed c) where
+-- the stages of a record, and the length of the unit that holds them or does not
+record Staged (s : List ℕ) (c : Case) : Type 0 where
+  old-unit : Stageless s → word s 2 ≡ 32
+  unit : (Stageless s → ⊥) → word s 2 ≡ 34
+  no-stages : Stageless s → (c .upstage ≡ 0) × (c .downstage ≡ 0)
+  upstage : (Stageless s → ⊥) → getD s (word s 0 + 32) 0 ≡ c .upstage
+  downstage : (Stageless s → ⊥) → getD s (word s 0 + 33) 0 ≡ c .downstage
+
+-- ---- a record whose entries below its counts are those of the file, in a form with these stages and prices of w bytes
+module _ (stages : List ℕ) (w : ℕ) (more : Form) (file : List ℕ) (whole : Whole (formed stages w more) file) (c : Case)
+    (e : caseIn (formed stages w more) file ≡ zeroed c) where
   abbrev form : Form
-  form = pricedForm w tail
+  form = formed stages w more
 
   -- a number of section i, at its place in the file
   section-number : (i k size : ℕ) → k + size ≤ lengthAt file i
@@ -86,8 +62,10 @@ module _ (w : ℕ) (tail : Form) (file : List ℕ) (whole : Whole (pricedForm w 
   section-word i k h = sym (numberAt-word file (word file (4 * i) + k)) ∙ section-number i k 2 h
 
   -- the lengths
-  unit-length : lengthAt file 0 ≡ width unitWidths
-  unit-length = omega (arith, whole .whole-entries 0 (omega arith), whole .entries-in 0 (omega arith))
+  unit-length : lengthAt file 0 ≡ width (unitWidths ++ stages)
+  unit-length =
+      let one : entriesAt form file 0 ≡ 1 = omega (arith, whole .entries-in 0 (omega arith)) in
+      omega (arith, whole .whole-entries 0 (omega arith), ap (λ n. entryLength form 0 * n) one)
 
   rise-length : lengthAt file 1 ≡ 2 * c .rises
   unfolding caseIn zeroed
@@ -101,14 +79,23 @@ module _ (w : ℕ) (tail : Form) (file : List ℕ) (whole : Whole (pricedForm w 
   unfolding caseIn zeroed
   hours-length = sym (whole .whole-entries 3 (omega arith)) ∙ ap (λ d. entryLength form 3 * d .hours) e
 
-  -- the unit
-  unit-word : (k : ℕ) → k + 2 ≤ width unitWidths → word file (word file 0 + k) ≡ numberAt (sectionAt file 0) k 2
-  unit-word k h = section-word 0 k (omega (arith, unit-length))
+  -- the unit: field j begins at byte k
+  unit-field : (j : ℕ) → entryAt form file 0 0 j ≡ fieldAt (unitWidths ++ stages) (sectionAt file 0) 0 j
+  unfolding entryAt
+  unit-field j = rw (mul-zero (entryLength form 0))
 
-  unit-cost : (k : ℕ) {z : ℤ} → k + 4 ≤ width unitWidths → signed (numberAt (sectionAt file 0) k 4) ≡ z
-      → Signed (long file (word file 0 + k)) z
-  unit-cost k h d =
-      signed-of (sym (numberAt-long file (word file 0 + k)) ∙ section-number 0 k 4 (omega (arith, unit-length))) d
+  unit-word : (j k : ℕ) → k + 2 ≤ width unitWidths
+      → fieldAt (unitWidths ++ stages) (sectionAt file 0) 0 j ≡ numberAt (sectionAt file 0) k 2
+      → word file (word file 0 + k) ≡ entryAt form file 0 0 j
+  unit-word j k h d = section-word 0 k (omega (arith, unit-length)) ∙ sym (unit-field j ∙ d)
+
+  unit-cost : (j k : ℕ) {z : ℤ} → k + 4 ≤ width unitWidths
+      → fieldAt (unitWidths ++ stages) (sectionAt file 0) 0 j ≡ numberAt (sectionAt file 0) k 4
+      → signed (entryAt form file 0 0 j) ≡ z → Signed (long file (word file 0 + k)) z
+  unit-cost j k h d =
+      signed-of
+      (sym (numberAt-long file (word file 0 + k)) ∙ section-number 0 k 4 (omega (arith, unit-length))
+      ∙ sym (unit-field j ∙ d))
 
   -- the trajectories
   stage-word : (i n : ℕ) (l : List Output) → lengthAt file i ≡ 2 * n → entriesAt form file i ≡ n
@@ -155,8 +142,8 @@ module _ (w : ℕ) (tail : Form) (file : List ℕ) (whole : Whole (pricedForm w 
       ∙ section-number 3 at 1 (omega (arith, hour-room k h))
       ∙ padded-entry 0 _ _ (ap (λ d. d .orders) e) (ap (λ d. d .hours) e) (whole .entries-in 3 (omega arith) .1) k h
 
-  -- what both forms hold alike
-  module _ (chained : Chained file) (measured : Measured file c)
+  -- what every form holds alike
+  module _ (chained : Chained file) (measured : Measured file c) (stages-held : Staged file c)
       (old-prices : word file 0 ≡ oldFront → (i : ℕ) → i < c .hours
       → Signed (word file (word file 12 + 3 * i)) (getD (c .prices) i noMills .0))
       (old-orders : word file 0 ≡ oldFront → (i : ℕ) → i < c .hours
@@ -166,24 +153,27 @@ module _ (w : ℕ) (tail : Form) (file : List ℕ) (whole : Whole (pricedForm w 
       (orders : word file 0 ≡ front → (i : ℕ) → i < c .hours
       → getD file (word file 12 + 5 * i + 4) 0 ≡ getD (c .orders) i 0) where
     holds-unit : Holds file c
-    unfolding caseIn zeroed entryAt fieldAt
+    unfolding caseIn zeroed fieldAt
     holds-unit =
         record {
           chained = chained;
           measured = measured;
           capacity = ap (word file) (let z : word file 0 ≡ word file 0 + 0 = omega arith in z)
-              ∙ unit-word 0 (omega arith) ∙ ap (λ d. d .capacity .0) e;
-          minimum = unit-word 2 (omega arith) ∙ ap (λ d. d .minimum .0) e;
-          rampup = unit-word 4 (omega arith) ∙ ap (λ d. d .rampup .0) e;
-          rampdown = unit-word 6 (omega arith) ∙ ap (λ d. d .rampdown .0) e;
-          minup = unit-word 8 (omega arith) ∙ ap (λ d. d .minup .0) e;
-          mindown = unit-word 10 (omega arith) ∙ ap (λ d. d .mindown .0) e;
-          variable = unit-cost 12 (omega arith) (ap (λ d. d .variable .0) e);
-          fixed = unit-cost 16 (omega arith) (ap (λ d. d .fixed .0) e);
-          startcost = unit-cost 20 (omega arith) (ap (λ d. d .startcost .0) e);
-          stopcost = unit-cost 24 (omega arith) (ap (λ d. d .stopcost .0) e);
-          initial = unit-word 28 (omega arith) ∙ ap (λ d. d .initial .0) e;
-          elapsed = unit-word 30 (omega arith) ∙ ap (λ d. d .elapsed .0) e;
+              ∙ unit-word 0 0 (omega arith) refl ∙ ap (λ d. d .capacity .0) e;
+          minimum = unit-word 1 2 (omega arith) refl ∙ ap (λ d. d .minimum .0) e;
+          rampup = unit-word 2 4 (omega arith) refl ∙ ap (λ d. d .rampup .0) e;
+          rampdown = unit-word 3 6 (omega arith) refl ∙ ap (λ d. d .rampdown .0) e;
+          minup = unit-word 4 8 (omega arith) refl ∙ ap (λ d. d .minup .0) e;
+          mindown = unit-word 5 10 (omega arith) refl ∙ ap (λ d. d .mindown .0) e;
+          variable = unit-cost 6 12 (omega arith) refl (ap (λ d. d .variable .0) e);
+          fixed = unit-cost 7 16 (omega arith) refl (ap (λ d. d .fixed .0) e);
+          startcost = unit-cost 8 20 (omega arith) refl (ap (λ d. d .startcost .0) e);
+          stopcost = unit-cost 9 24 (omega arith) refl (ap (λ d. d .stopcost .0) e);
+          initial = unit-word 10 28 (omega arith) refl ∙ ap (λ d. d .initial .0) e;
+          elapsed = unit-word 11 30 (omega arith) refl ∙ ap (λ d. d .elapsed .0) e;
+          no-stages = stages-held .no-stages;
+          upstage = stages-held .upstage;
+          downstage = stages-held .downstage;
           rise = rise-word;
           fall = fall-word;
           old-prices = old-prices;
@@ -192,8 +182,38 @@ module _ (w : ℕ) (tail : Form) (file : List ℕ) (whole : Whole (pricedForm w 
           orders = orders;
         }
 
+-- ---- the stages, in a form without them and in one with them
+module _ (w : ℕ) (more : Form) (file : List ℕ) (c : Case) where
+  without-stages : (whole : Whole (formed [] w more) file) → caseIn (formed [] w more) file ≡ zeroed c → Stageless file
+      → Staged file c
+  unfolding caseIn zeroed entryAt fieldAt
+  without-stages whole e s =
+      record {
+        old-unit = λ x. sym (length-word file 0) ∙ unit-length [] w more file whole c e;
+        unit = λ h. absurd (h s);
+        no-stages = λ x. (sym (ap (λ d. d .upstage) e), sym (ap (λ d. d .downstage) e));
+        upstage = λ h. absurd (h s);
+        downstage = λ h. absurd (h s);
+      }
+
+  with-stages : (whole : Whole (formed stageWidths w more) file)
+      → caseIn (formed stageWidths w more) file ≡ zeroed c → (Stageless file → ⊥) → Staged file c
+  unfolding caseIn zeroed entryAt fieldAt
+  with-stages whole e h =
+      let long = unit-length stageWidths w more file whole c e in
+      let byte : (k : ℕ) → k + 1 ≤ 34 → getD file (word file 0 + k) 0 ≡ numberAt (sectionAt file 0) k 1 =
+      λ k room. sym (numberAt-one file (word file 0 + k))
+      ∙ section-number stageWidths w more file whole c e 0 k 1 (omega arith) in
+      record {
+        old-unit = λ s. absurd (h s);
+        unit = λ x. sym (length-word file 0) ∙ long;
+        no-stages = λ s. absurd (h s);
+        upstage = λ x. byte 32 (omega arith) ∙ ap (λ d. d .upstage) e;
+        downstage = λ x. byte 33 (omega arith) ∙ ap (λ d. d .downstage) e;
+      }
+
 -- ---- the old form
-module _ (file : List ℕ) (l : Linked oldForm file) where
+module _ (file : List ℕ) (l : Linked (oldForm .1) file) where
   old-first : word file 0 ≡ oldFront
   old-first = sym (offset-word file 0) ∙ l .first
 
@@ -210,33 +230,38 @@ module _ (file : List ℕ) (l : Linked oldForm file) where
         end = λ z. absurd (omega (arith, old-first));
       }
 
-module _ (file : List ℕ) (whole : Whole oldForm file) (c : Case) (e : caseIn oldForm file ≡ zeroed c) where
+module _ (file : List ℕ) (whole : Whole (oldForm .1) file) (c : Case) (e : caseIn (oldForm .1) file ≡ zeroed c) where
   abbrev old-start : word file 0 ≡ oldFront
   old-start = old-first file (whole .linked)
+
+  old-stages : Staged file c
+  old-stages = without-stages 2 [] file c whole e (old old-start)
 
   old-measured : Measured file c
   old-measured =
       record {
-        unit = sym (length-word file 0) ∙ unit-length 2 [] file whole c e;
-        rise = sym (length-word file 1) ∙ rise-length 2 [] file whole c e;
-        fall = sym (length-word file 2) ∙ fall-length 2 [] file whole c e;
-        old-hours = λ z. sym (length-word file 3) ∙ hours-length 2 [] file whole c e;
+        old-unit = old-stages .old-unit;
+        unit = old-stages .unit;
+        rise = sym (length-word file 1) ∙ rise-length [] 2 [] file whole c e;
+        fall = sym (length-word file 2) ∙ fall-length [] 2 [] file whole c e;
+        old-hours = λ z. sym (length-word file 3) ∙ hours-length [] 2 [] file whole c e;
         hours = λ z. absurd (omega (arith, old-start));
         form = λ z. absurd (omega (arith, old-start));
       }
 
   old-holds : Holds file c
   old-holds =
-      holds-unit 2 [] file whole c e (old-chained file (whole .linked)) old-measured
+      holds-unit [] 2 [] file whole c e (old-chained file (whole .linked)) old-measured old-stages
       (λ z i h. subst (λ n. Signed n (getD (c .prices) i noMills .0)) (numberAt-word file (word file 12 + 3 * i))
-      (price-number 2 [] file whole c e i h))
+      (price-number [] 2 [] file whole c e i h))
       (λ z i h.
       ap (λ at. getD file at 0) (let q : word file 12 + 3 * i + 2 ≡ word file 12 + (3 * i + 2) = omega arith in q)
-      ∙ order-byte 2 [] file whole c e i h)
+      ∙ order-byte [] 2 [] file whole c e i h)
       (λ z. absurd (omega (arith, old-start))) (λ z. absurd (omega (arith, old-start)))
 
--- ---- form 2
-module _ (file : List ℕ) (l : Linked (newest .1) file) where
+-- ---- the forms that hold their number
+-- they have sections that follow one another alike
+module _ (stages file : List ℕ) (l : Linked (formed stages 4 numberSection) file) where
   new-first : word file 0 ≡ front
   new-first = sym (offset-word file 0) ∙ l .first
 
@@ -253,56 +278,65 @@ module _ (file : List ℕ) (l : Linked (newest .1) file) where
         end = λ z. sym (l .end) ∙ end-word file 4;
       }
 
-module _ (file : List ℕ) (whole : Whole (newest .1) file) (c : Case) (e : caseIn (newest .1) file ≡ zeroed c) where
-  abbrev tail : Form
-  tail = (2 ∷ []) ∷ []
-
+module _ (stages file : List ℕ) (whole : Whole (formed stages 4 numberSection) file) (c : Case)
+    (e : caseIn (formed stages 4 numberSection) file ≡ zeroed c) where
   abbrev new-start : word file 0 ≡ front
-  new-start = new-first file (whole .linked)
+  new-start = new-first stages file (whole .linked)
 
   form-length : lengthAt file 4 ≡ 2
   form-length = omega (arith, whole .whole-entries 4 (omega arith), whole .entries-in 4 (omega arith))
 
-  new-measured : Measured file c
-  new-measured =
+  pub form-word : word file 18 ≡ 2
+  form-word = sym (length-word file 4) ∙ form-length
+
+  new-measured : Staged file c → Measured file c
+  new-measured s =
       record {
-        unit = sym (length-word file 0) ∙ unit-length 4 tail file whole c e;
-        rise = sym (length-word file 1) ∙ rise-length 4 tail file whole c e;
-        fall = sym (length-word file 2) ∙ fall-length 4 tail file whole c e;
+        old-unit = s .old-unit;
+        unit = s .unit;
+        rise = sym (length-word file 1) ∙ rise-length stages 4 numberSection file whole c e;
+        fall = sym (length-word file 2) ∙ fall-length stages 4 numberSection file whole c e;
         old-hours = λ z. absurd (omega (arith, new-start));
-        hours = λ z. sym (length-word file 3) ∙ hours-length 4 tail file whole c e;
-        form = λ z. sym (length-word file 4) ∙ form-length;
+        hours = λ z. sym (length-word file 3) ∙ hours-length stages 4 numberSection file whole c e;
+        form = λ z. form-word;
       }
 
-  new-holds : Holds file c
-  new-holds =
-      holds-unit 4 tail file whole c e (new-chained file (whole .linked)) new-measured
+  new-holds : Staged file c → Holds file c
+  new-holds s =
+      holds-unit stages 4 numberSection file whole c e (new-chained stages file (whole .linked)) (new-measured s) s
       (λ z. absurd (omega (arith, new-start))) (λ z. absurd (omega (arith, new-start)))
       (λ z i h. subst (λ n. Signed n (getD (c .prices) i noMills .0)) (numberAt-long file (word file 12 + 5 * i))
-      (price-number 4 tail file whole c e i h))
+      (price-number stages 4 numberSection file whole c e i h))
       (λ z i h.
       ap (λ at. getD file at 0) (let q : word file 12 + 5 * i + 4 ≡ word file 12 + (5 * i + 4) = omega arith in q)
-      ∙ order-byte 4 tail file whole c e i h)
+      ∙ order-byte stages 4 numberSection file whole c e i h)
 
--- ---- either form
+-- ---- whatever the form
 pub chained-of : (file : List ℕ) → Linked (formOf file) file → Chained file
-chained-of file l = go (ℕ-discrete (offsetAt file 0) oldFront)
+chained-of file l = go (known file) l
   where
-    go : Dec (offsetAt file 0 ≡ oldFront) → Chained file
-    go (yes d) = old-chained file (subst (λ f. Linked f file) (formOf-old file d) l)
-    go (no d) = new-chained file (subst (λ f. Linked f file) (formOf-new file d) l)
+    go : {f : Form} → Known file f → Linked f file → Chained file
+    go (is-old d) l = old-chained file l
+    go (is-two d n) l = new-chained [] file l
+    go (is-new d n) l = new-chained stageWidths file l
 
 holds-of-caseOf : (file : List ℕ) → Whole (formOf file) file → (c : Case) → caseOf file ≡ zeroed c → Holds file c
 unfolding caseOf
-holds-of-caseOf file whole c e = go (ℕ-discrete (offsetAt file 0) oldFront)
+holds-of-caseOf file whole c e = go (known file) whole e
   where
-    go : Dec (offsetAt file 0 ≡ oldFront) → Holds file c
-    go (yes d) =
-        let is = formOf-old file d in
-        old-holds file (subst (λ f. Whole f file) is whole) c (rw is at e)
-    go (no d) =
-        let is = formOf-new file d in
-        new-holds file (subst (λ f. Whole f file) is whole) c (rw is at e)
+    chained : Chained file
+    chained = chained-of file (whole .linked)
+
+    go : {f : Form} → Known file f → Whole f file → caseIn f file ≡ zeroed c → Holds file c
+    go (is-old d) whole e = old-holds file whole c e
+    go (is-two d n) whole e =
+        new-holds [] file whole c e
+        (without-stages 4 numberSection file c whole e
+        (two-stageless file chained (λ z. form-word [] file whole c e) d n))
+    go (is-new d n) whole e =
+        new-holds stageWidths file whole c e
+        (with-stages 4 numberSection file c whole e
+        (new-staged file chained (λ z. form-word stageWidths file whole c e) d n))
 
 pub holds-bytesOf : (c : Case) → refusalOf c ≡ 0 → Holds (bytesOf c) c
 holds-bytesOf c e =

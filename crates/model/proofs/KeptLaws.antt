@@ -16,13 +16,14 @@ use Rattle.laws.proofs.Tests.{and→both, or→either, left→or, right→or, t
 use Rattle.model.specs.declared.Case.{Case}
 use Rattle.model.specs.declared.Breach.{Breach}
 use Rattle.model.specs.Symbols.{before, high, low, RU, RD, UD, DD, PU, PD, last}
-use Rattle.model.specs.Marks.{p, v, y, z}
-use Rattle.model.specs.Constraints.{starting, stopping, startOutput, stopOutput, stopsWithin, rule1, rule2, rule3}
+use Rattle.model.specs.Marks.{p, v, y, starting, z}
+use Rattle.model.specs.Constraints.{stopping, startOutput, stopOutput, stopsWithin, rule1, rule2, rule3}
 use Rattle.model.specs.Constraints.{rule4, rule5, rule6, rule7, rule8, rule9, rule10, rule11, rule12}
-use Rattle.model.specs.Rules.{rule21, rule22, rule23, rulesAt, brokenOf, brokenAt, breachFrom, breach, keeps}
+use Rattle.model.specs.Rules.{rule21, rule22, rule23, dayRules, rulesAt, brokenOf, brokenAt, breachFrom, breach}
+use Rattle.model.specs.Rules.{keeps}
 use Rattle.model.specs.Refusals.{within}
 use Rattle.model.specs.Words.{Kept, kept1, kept2, kept3, kept4, kept5, kept6, kept7, kept8, kept9, kept10, kept11}
-use Rattle.model.specs.Words.{kept12, kept21, kept22, kept23, tested, Breaks}
+use Rattle.model.specs.Words.{kept12, kept21, kept22, kept23, tested, KeepsAll, Breaks, markingOf}
 use Rattle.model.proofs.CheckLaws.{before-is}
 use Rattle.model.proofs.KeepsLaws.{kept-length, kept-unbroken, kept-of-unbroken, unbroken-of-none}
 use Rattle.model.proofs.TimesLaws.{ordered-of, of-ordered}
@@ -127,130 +128,140 @@ module _ (held : ℕ → Bool) (kept : ℕ → Type 0) (k : ℕ) where
 
 -- ---- each rule by its number
 module _ (c : Case) (l : List ℕ) (k : ℕ) where
-  there1 : T (rule1 c l k) → Kept c l k 1
-  unfolding rule1
+  there1 : T (rule1 c l k) → Kept c (markingOf c l) k 1
+  unfolding rule1 starting stopping startOutput v
   there1 t = kept1 (least (low c) (v c l k) (stopping c l k + starting c l k) (startOutput c l k) (p c l k) .0 t)
 
-  back1 : Kept c l k 1 → T (rule1 c l k)
-  unfolding rule1
+  back1 : Kept c (markingOf c l) k 1 → T (rule1 c l k)
+  unfolding rule1 starting stopping startOutput v
   back1 (kept1 h) = least (low c) (v c l k) (stopping c l k + starting c l k) (startOutput c l k) (p c l k) .1 h
 
-  there2 : T (rule2 c l k) → Kept c l k 2
-  unfolding rule2
+  there2 : T (rule2 c l k) → Kept c (markingOf c l) k 2
+  unfolding rule2 starting stopping stopOutput v
   there2 t = kept2 (least (low c) (v c l k) (stopping c l k + starting c l k) (stopOutput c l k) (p c l k) .0 t)
 
-  back2 : Kept c l k 2 → T (rule2 c l k)
-  unfolding rule2
+  back2 : Kept c (markingOf c l) k 2 → T (rule2 c l k)
+  unfolding rule2 starting stopping stopOutput v
   back2 (kept2 h) = least (low c) (v c l k) (stopping c l k + starting c l k) (stopOutput c l k) (p c l k) .1 h
 
-  there3 : T (rule3 c l k) → Kept c l k 3
-  unfolding rule3
+  there3 : T (rule3 c l k) → Kept c (markingOf c l) k 3
+  unfolding rule3 starting startOutput v
   there3 t = kept3 (most (high c) (v c l k) (starting c l k) (startOutput c l k) (p c l k) .0 t)
 
-  back3 : Kept c l k 3 → T (rule3 c l k)
-  unfolding rule3
+  back3 : Kept c (markingOf c l) k 3 → T (rule3 c l k)
+  unfolding rule3 starting startOutput v
   back3 (kept3 h) = most (high c) (v c l k) (starting c l k) (startOutput c l k) (p c l k) .1 h
 
-  there4 : T (rule4 c l k) → Kept c l k 4
-  unfolding rule4
+  there4 : T (rule4 c l k) → Kept c (markingOf c l) k 4
+  unfolding rule4 stopping stopOutput v
   there4 t = kept4 (most (high c) (v c l k) (stopping c l k) (stopOutput c l k) (p c l k) .0 t)
 
-  back4 : Kept c l k 4 → T (rule4 c l k)
-  unfolding rule4
+  back4 : Kept c (markingOf c l) k 4 → T (rule4 c l k)
+  unfolding rule4 stopping stopOutput v
   back4 (kept4 h) = most (high c) (v c l k) (stopping c l k) (stopOutput c l k) (p c l k) .1 h
 
-  there5 : T (rule5 c l k) → Kept c l k 5
-  unfolding rule5
+  there5 : T (rule5 c l k) → Kept c (markingOf c l) k 5
+  unfolding rule5 starting v
   there5 t =
       kept5 (rw (sym (before-is k))
       (ramp (RU c) (high c) (v c l k) (starting c l k) (p c l (before k)) (p c l k) .0 t))
 
-  back5 : Kept c l k 5 → T (rule5 c l k)
-  unfolding rule5
+  back5 : Kept c (markingOf c l) k 5 → T (rule5 c l k)
+  unfolding rule5 starting v
   back5 (kept5 h) = ramp (RU c) (high c) (v c l k) (starting c l k) (p c l (before k)) (p c l k) .1 (rw (before-is k) h)
 
-  there6 : T (rule6 c l k) → Kept c l k 6
-  unfolding rule6
+  there6 : T (rule6 c l k) → Kept c (markingOf c l) k 6
+  unfolding rule6 stopsWithin v
   there6 t =
       kept6 (rw (sym (before-is k))
       (ramp (RD c) (high c) (v c l (before k)) (stopsWithin c l (DD c) k) (p c l k) (p c l (before k)) .0 t))
 
-  back6 : Kept c l k 6 → T (rule6 c l k)
-  unfolding rule6
+  back6 : Kept c (markingOf c l) k 6 → T (rule6 c l k)
+  unfolding rule6 stopsWithin v
   back6 (kept6 h) =
       ramp (RD c) (high c) (v c l (before k)) (stopsWithin c l (DD c) k) (p c l k) (p c l (before k)) .1
       (rw (before-is k) h)
 
-  there7 : T (rule7 c l k) → Kept c l k 7
-  unfolding rule7
+  there7 : T (rule7 c l k) → Kept c (markingOf c l) k 7
+  unfolding rule7 v
   there7 t = kept7 (rw (sym (before-is k)) (balance (y c l k) (v c l (before k)) (v c l k) (z c l k) .0 t))
 
-  back7 : Kept c l k 7 → T (rule7 c l k)
-  unfolding rule7
+  back7 : Kept c (markingOf c l) k 7 → T (rule7 c l k)
+  unfolding rule7 v
   back7 (kept7 h) = balance (y c l k) (v c l (before k)) (v c l k) (z c l k) .1 (rw (before-is k) h)
 
-  there8 : T (rule8 c l k) → Kept c l k 8
-  unfolding rule8
+  there8 : T (rule8 c l k) → Kept c (markingOf c l) k 8
+  unfolding rule8 starting v
   there8 t = kept8 (at-most (starting c l k) (v c l k) .0 t)
 
-  back8 : Kept c l k 8 → T (rule8 c l k)
-  unfolding rule8
+  back8 : Kept c (markingOf c l) k 8 → T (rule8 c l k)
+  unfolding rule8 starting v
   back8 (kept8 h) = at-most (starting c l k) (v c l k) .1 h
 
-  there9 : T (rule9 c l k) → Kept c l k 9
-  unfolding rule9
+  there9 : T (rule9 c l k) → Kept c (markingOf c l) k 9
+  unfolding rule9 stopping v
   there9 t = kept9 (at-most (stopping c l k) (v c l k) .0 t)
 
-  back9 : Kept c l k 9 → T (rule9 c l k)
-  unfolding rule9
+  back9 : Kept c (markingOf c l) k 9 → T (rule9 c l k)
+  unfolding rule9 stopping v
   back9 (kept9 h) = at-most (stopping c l k) (v c l k) .1 h
 
-  there10 : T (rule10 c l k) → Kept c l k 10
-  unfolding rule10
+  there10 : T (rule10 c l k) → Kept c (markingOf c l) k 10
+  unfolding rule10 stopsWithin
   there10 t = kept10 (at-most (y c l k + stopsWithin c l (UD c + DD c - 1) k) 1 .0 t)
 
-  back10 : Kept c l k 10 → T (rule10 c l k)
-  unfolding rule10
+  back10 : Kept c (markingOf c l) k 10 → T (rule10 c l k)
+  unfolding rule10 stopsWithin
   back10 (kept10 h) = at-most (y c l k + stopsWithin c l (UD c + DD c - 1) k) 1 .1 h
 
-  there11 : T (rule11 c l k) → Kept c l k 11
-  unfolding rule11
+  there11 : T (rule11 c l k) → Kept c (markingOf c l) k 11
+  unfolding rule11 starting stopping
   there11 t = kept11 (meeting (PU c (UD c)) (stopping c l k + starting c l k) (p c l k) .0 t)
 
-  back11 : Kept c l k 11 → T (rule11 c l k)
-  unfolding rule11
+  back11 : Kept c (markingOf c l) k 11 → T (rule11 c l k)
+  unfolding rule11 starting stopping
   back11 (kept11 h) = meeting (PU c (UD c)) (stopping c l k + starting c l k) (p c l k) .1 h
 
-  there12 : T (rule12 c l k) → Kept c l k 12
-  unfolding rule12
+  there12 : T (rule12 c l k) → Kept c (markingOf c l) k 12
+  unfolding rule12 starting stopping
   there12 t = kept12 (meeting (PD c 1) (stopping c l k + starting c l k) (p c l k) .0 t)
 
-  back12 : Kept c l k 12 → T (rule12 c l k)
-  unfolding rule12
+  back12 : Kept c (markingOf c l) k 12 → T (rule12 c l k)
+  unfolding rule12 starting stopping
   back12 (kept12 h) = meeting (PD c 1) (stopping c l k + starting c l k) (p c l k) .1 h
 
-  there23 : T (rule23 c l k) → Kept c l k 23
+  there23 : T (rule23 c l k) → Kept c (markingOf c l) k 23
   there23 t = kept23 (ordered-of c l k t)
 
-  back23 : Kept c l k 23 → T (rule23 c l k)
+  back23 : Kept c (markingOf c l) k 23 → T (rule23 c l k)
   back23 (kept23 h) = of-ordered c l k h
 
 module _ (c : Case) (l : List ℕ) (k : ℕ) where
-  back21 : Kept c l (suc k) 21 → T (rule21 c l (suc k))
+  back21 : Kept c (markingOf c l) (suc k) 21 → T (rule21 c l (suc k))
   back21 (kept21 h) = up-time c l k .1 h
 
-  back22 : Kept c l (suc k) 22 → T (rule22 c l (suc k))
+  back22 : Kept c (markingOf c l) (suc k) 22 → T (rule22 c l (suc k))
   back22 (kept22 h) = down-time c l k .1 h
 
 -- ---- the tests of an hour
+-- the numbers of an hour of the day, and of one after it
+abbrev inDay : ℕ → Bool
+inDay n = within 1 12 n || within 21 23 n
+
+abbrev afterDay : ℕ → Bool
+afterDay n = eqb n 21
+
 module _ (c : Case) (l : List ℕ) where
-  stated-opening : Stated (tested 0) (Kept c l 0) 0 (rulesAt c l 0)
+  abbrev KeptAt : ℕ → ℕ → Type 0
+  KeptAt k n = Kept c (markingOf c l) k n
+
+  stated-opening : Stated (tested c 0) (KeptAt 0) 0 (rulesAt c l 0)
   unfolding rulesAt
   stated-opening = next tt (there2 c l 0, back2 c l 0) (next tt (there4 c l 0, back4 c l 0) end)
 
-  stated-hour : (k : ℕ) → Stated (tested (suc k)) (Kept c l (suc k)) (suc k) (rulesAt c l (suc k))
-  unfolding rulesAt
-  stated-hour k =
+  stated-day : (k : ℕ) → Stated inDay (KeptAt (suc k)) (suc k) (dayRules c l)
+  unfolding dayRules
+  stated-day k =
       let n : ℕ = suc k in
       next tt (there1 c l n, back1 c l n)
       (next tt (there2 c l n, back2 c l n)
@@ -268,14 +279,28 @@ module _ (c : Case) (l : List ℕ) where
       (next tt (λ t. kept22 (down-time c l k .0 t), back22 c l k)
       (next tt (there23 c l n, back23 c l n) end))))))))))))))
 
-  stated : (k : ℕ) → Stated (tested k) (Kept c l k) k (rulesAt c l k)
+  stated-after : (k : ℕ) → Stated afterDay (KeptAt (suc k)) (suc k) ((21, rule21 c l) ∷ [])
+  stated-after k = next tt (λ t. kept21 (up-time c l k .0 t), back21 c l k) end
+
+  stated : (k : ℕ) → Stated (tested c k) (KeptAt k) k (rulesAt c l k)
+  unfolding rulesAt
   stated zero = stated-opening
-  stated (suc k) = stated-hour k
+  stated (suc k) = go (ltb k (last c))
+    where
+      go : (t : Bool)
+          → Stated (λ n. cond t (inDay n) (afterDay n)) (KeptAt (suc k)) (suc k)
+          (cond t (dayRules c l) ((21, rule21 c l) ∷ []))
+      go true = stated-day k
+      go false = stated-after k
 
   rising-rules : (k : ℕ) → T (rising 0 (rulesAt c l k))
-  unfolding rulesAt
+  unfolding rulesAt dayRules
   rising-rules zero = tt
-  rising-rules (suc k) = tt
+  rising-rules (suc k) = go (ltb k (last c))
+    where
+      go : (t : Bool) → T (rising 0 (cond t (dayRules c l) ((21, rule21 c l) ∷ [])))
+      go true = tt
+      go false = tt
 
 -- ---- an hour is held to the numbers of its tests
 -- f of every number below n
@@ -294,38 +319,44 @@ implied : (a b : Bool) → T (not a || b) → T a → T b
 implied true b t s = t
 implied false b t s = absurd s
 
-tested-lt : (k n : ℕ) → T (tested (suc k) n) → n < 24
-tested-lt k n t = ⊎-elim
+inDay-lt : (n : ℕ) → T (inDay n) → n < 24
+inDay-lt n t = ⊎-elim
     (λ a. omega (arith, leb→le n 12 (and→both (leb 1 n) (leb n 12) a .1)))
     (λ b. omega (arith, leb→le n 23 (and→both (leb 21 n) (leb n 23) b .1)))
     (or→either (within 1 12 n) (within 21 23 n) t)
 
 module _ (c : Case) (l : List ℕ) where
-  tested-listed : (k n : ℕ) → T (tested k n) → T (listed (rulesAt c l k) n)
+  day-listed : (n : ℕ) → T (inDay n) → T (listed (dayRules c l) n)
+  unfolding dayRules
+  day-listed n t =
+      implied (inDay n) (listed (dayRules c l) n)
+      (below-at (λ x. not (inDay x) || listed (dayRules c l) x) 24 n tt (inDay-lt n t)) t
+
+  tested-listed : (k n : ℕ) → T (tested c k n) → T (listed (rulesAt c l k) n)
   unfolding rulesAt
   tested-listed zero n t = ⊎-elim
       (left→or (eqb n 2) (eqb n 4 || false))
       (λ b. right→or (eqb n 2) (eqb n 4 || false) (left→or (eqb n 4) false b))
       (or→either (eqb n 2) (eqb n 4) t)
-  tested-listed (suc k) n t =
-      implied (tested (suc k) n) (listed (rulesAt c l (suc k)) n)
-      (below-at (λ x. not (tested (suc k) x) || listed (rulesAt c l (suc k)) x) 24 n tt (tested-lt k n t)) t
+  tested-listed (suc k) n t = go (ltb k (last c)) t
+    where
+      go : (b : Bool) → T (cond b (inDay n) (eqb n 21))
+          → T (listed (cond b (dayRules c l) ((21, rule21 c l) ∷ [])) n)
+      go true t = day-listed n t
+      go false t = left→or (eqb n 21) false t
 
   -- ---- a list that keeps every rule
-  kept-at : (k : ℕ) → brokenAt c l k ≡ 0 → (n : ℕ) → T (tested k n) → Kept c l k n
+  kept-at : (k : ℕ) → brokenAt c l k ≡ 0 → (n : ℕ) → T (tested c k n) → KeptAt c l k n
   unfolding brokenAt
   kept-at k e n t =
-      kept-of-none (tested k) (Kept c l k) k 0 (rulesAt c l k) (stated c l k) (rising-rules c l k) e n
+      kept-of-none (tested c k) (KeptAt c l k) k 0 (rulesAt c l k) (stated c l k) (rising-rules c l k) e n
       (tested-listed k n t)
 
-  unbroken-at : (k : ℕ) → ((n : ℕ) → T (tested k n) → Kept c l k n) → brokenAt c l k ≡ 0
+  unbroken-at : (k : ℕ) → ((n : ℕ) → T (tested c k n) → KeptAt c l k n) → brokenAt c l k ≡ 0
   unfolding brokenAt
-  unbroken-at k h = none-of-kept (tested k) (Kept c l k) k (rulesAt c l k) (stated c l k) h
+  unbroken-at k h = none-of-kept (tested c k) (KeptAt c l k) k (rulesAt c l k) (stated c l k) h
 
-  abbrev KeptDay : Type 0
-  KeptDay = (length l ≡ last c) × ((k n : ℕ) → k ≤ last c → T (tested k n) → Kept c l k n)
-
-  pub kept : T (keeps c l) ↔ KeptDay
+  pub kept : T (keeps c l) ↔ ((length l ≡ last c) × KeepsAll c (markingOf c l))
   kept = (
     λ t. (kept-length c l t, λ k n h. kept-at k (kept-unbroken c l t k h) n),
     λ d. kept-of-unbroken c l (d .0) (λ k h. unbroken-at k (λ n. d .1 k n h)),
@@ -373,23 +404,23 @@ module _ (c : Case) (l : List ℕ) where
             earlier = λ i a h. absurd (omega arith);
           })
 
-  breaks-of-breach : (b : Breach) → breach c l ≡ some b → Breaks c l (b .hour .0) (b .rule)
+  breaks-of-breach : (b : Breach) → breach c l ≡ some b → Breaks c (markingOf c l) (b .hour .0) (b .rule)
   unfolding breach brokenAt
   breaks-of-breach b e =
-      let r = first-from (suc (last c)) 0 b e in
+      let r = first-from (last c + DD c) 0 b e in
       let k = b .hour .0 in
-      let f = first-broken (tested k) (Kept c l k) k 0 (rulesAt c l k) (stated c l k) (rising-rules c l k)
+      let f = first-broken (tested c k) (KeptAt c l k) k 0 (rulesAt c l k) (stated c l k) (rising-rules c l k)
       (λ z. r .broken (sym (r .rule) ∙ z)) in
       record {
         inside = omega (arith, r .to);
-        held = subst (λ n. T (tested k n)) (r .rule) (f .tests);
-        broken = λ h. f .broken (subst (Kept c l k) (sym (r .rule)) h);
+        held = subst (λ n. T (tested c k n)) (r .rule) (f .tests);
+        broken = λ h. f .broken (subst (KeptAt c l k) (sym (r .rule)) h);
         lower = λ m h t. f .lower m (omega (arith, r .rule)) (tested-listed k m t);
         earlier = λ i m h t. kept-at i (r .earlier i (omega arith) h) m t;
       }
 
   -- there is one first breach only
-  breaks-unique : (k n i m : ℕ) → Breaks c l k n → Breaks c l i m → (k ≡ i) × (n ≡ m)
+  breaks-unique : (k n i m : ℕ) → Breaks c (markingOf c l) k n → Breaks c (markingOf c l) i m → (k ≡ i) × (n ≡ m)
   breaks-unique k n i m a b = go (decLt k i) (decLt i k) (decLt n m) (decLt m n)
     where
       go : Dec (k < i) → Dec (i < k) → Dec (n < m) → Dec (m < n) → (k ≡ i) × (n ≡ m)
@@ -397,15 +428,15 @@ module _ (c : Case) (l : List ℕ) where
       go (no h) (yes q) r s = absurd (b .broken (a .earlier i m q (b .held)))
       go (no h) (no q) (yes r) s =
           let e : k ≡ i = omega arith in
-          let held = subst (λ x. T (tested x n)) e (a .held) in
-          absurd (a .broken (subst (λ x. Kept c l x n) (sym e) (b .lower n r held)))
+          let held = subst (λ x. T (tested c x n)) e (a .held) in
+          absurd (a .broken (subst (λ x. KeptAt c l x n) (sym e) (b .lower n r held)))
       go (no h) (no q) (no r) (yes s) =
           let e : i ≡ k = omega arith in
-          let held = subst (λ x. T (tested x m)) e (b .held) in
-          absurd (b .broken (subst (λ x. Kept c l x m) (sym e) (a .lower m s held)))
+          let held = subst (λ x. T (tested c x m)) e (b .held) in
+          absurd (b .broken (subst (λ x. KeptAt c l x m) (sym e) (a .lower m s held)))
       go (no h) (no q) (no r) (no s) = (omega arith, omega arith)
 
-  breach-of-breaks : (b : Breach) → Breaks c l (b .hour .0) (b .rule) → breach c l ≡ some b
+  breach-of-breaks : (b : Breach) → Breaks c (markingOf c l) (b .hour .0) (b .rule) → breach c l ≡ some b
   breach-of-breaks b s = go (breach c l) refl
     where
       go : (x : Option Breach) → breach c l ≡ x → x ≡ some b
@@ -416,5 +447,5 @@ module _ (c : Case) (l : List ℕ) where
           let e = breaks-unique (a .hour .0) (a .rule) (b .hour .0) (b .rule) (breaks-of-breach a d) s in
           ap some (same-breach a b (e .0) (e .1))
 
-  pub first-breach : (b : Breach) → (breach c l ≡ some b) ↔ Breaks c l (b .hour .0) (b .rule)
+  pub first-breach : (b : Breach) → (breach c l ≡ some b) ↔ Breaks c (markingOf c l) (b .hour .0) (b .rule)
   first-breach b = (breaks-of-breach b, breach-of-breaks b)

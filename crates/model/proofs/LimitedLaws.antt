@@ -1,25 +1,28 @@
 -- The refusal of a record is the first number whose published limits it does not keep: each of the tests 2 to 8 and 13
 -- is false exactly where the limits of its number are kept. Assumes nothing.
-use mathlib.Core.Path.{_≡_, refl}
+use mathlib.Core.Path.{_≡_}
 use mathlib.Core.Logic.{_↔_}
-use mathlib.Core.Bool.{Bool, true, false}
-use Prim.Native.Nat.{ℕ, suc, _-_}
+use mathlib.Core.Bool.{true, false, _||_}
+use Prim.Native.Nat.{ℕ, suc, _+_, _-_, _<_}
+use native.Mathlib.Decide.{decLt}
 use native.Mathlib.Numerals.{add-one}
 use native.Mathlib.Omega.{arith}
-use borrow.Author.Tests.{ltb-true, ltb-false, lt-ltb, le-ltb, le-leb, eq-eqb, ne-eqb}
+use borrow.Author.Tests.{lt-ltb, le-leb, eq-eqb, ne-eqb}
 use lib.Dec.{leb, ltb}
 use lib.IntN.{pos, negℤ}
 use Rattle.model.specs.declared.Case.{Case}
 use Rattle.model.specs.Limits.{mostStages, mostHours, mostOutput, mostTime, mostElapsed, mostVariable}
 use Rattle.model.specs.Limits.{mostCharge, mostPrice, mostOrder}
 use Rattle.model.specs.Symbols.{high, low, RU, RD, upTime, downTime, UD, DD, PU, PD, last, order}
-use Rattle.model.specs.Symbols.{F, A, B, C, price, p0, h}
+use Rattle.model.specs.Symbols.{F, A, B, C, price, p0, h, upStage, downStage}
 use Rattle.model.specs.Refusals.{amounts, refusal2, refusal3, refusal4, refusal5, climbs, descends, refusal6}
-use Rattle.model.specs.Refusals.{refusal7, refusal8, refusal13, firstOf, tests, refusalOf}
-use Rattle.model.specs.Published.{Trajectories, Limited, limit2, limit3, limit4, limit5, limit6, limit7, limit8}
-use Rattle.model.specs.Published.{limit13, FirstRefused, none, recordOrder}
-use Rattle.model.proofs.LimitsLaws.{Climbs, Descends, between-within, amounts-within, all-every, counts, outputs}
-use Rattle.model.proofs.LimitsLaws.{rates, money, trajectories, opening, orders, prices}
+use Rattle.model.specs.Refusals.{opensFree, opensUp, opensDown, refusal7, refusal8, refusal13, firstOf, tests}
+use Rattle.model.specs.Refusals.{refusalOf}
+use Rattle.model.specs.Published.{Trajectories, Opening, Limited, limit2, limit3, limit4, limit5, limit6, limit7}
+use Rattle.model.specs.Published.{limit8, limit13, FirstRefused, none, recordOrder}
+use Rattle.model.proofs.LimitsLaws.{Climbs, Descends, Between, Opened, opened-free, opened-up, opened-down}
+use Rattle.model.proofs.LimitsLaws.{between-within, amounts-within, all-every, counts, outputs, rates, money}
+use Rattle.model.proofs.LimitsLaws.{trajectories, opening, orders, prices}
 use Rattle.model.proofs.RefusalsLaws.{first-exactly, first-test}
 
 module _ (c : Case) where
@@ -79,26 +82,51 @@ module _ (c : Case) where
   unfolding refusal6
   passes6 (limit6 t) = rw (climbed t, descended t)
 
+  -- the opening by its three cases
+  opened : Opening c → Opened c
+  opened o = go (decLt 0 (upStage c)) (decLt 0 (downStage c))
+    where
+      go : Dec (0 < upStage c) → Dec (0 < downStage c) → Opened c
+      go (yes u) d = let (a, e, t) = o .up u in opened-up (o .single u) u a e t
+      go (no u) (yes d) = let (a, b, e, t) = o .down d in opened-down (omega arith) a b e t
+      go (no u) (no d) = opened-free (omega arith) (omega arith) (o .free (omega arith) (omega arith))
+
+  opens : Opened c → (opensFree c || (opensUp c || opensDown c)) ≡ true
+  unfolding opensFree opensUp opensDown
+  opens (opened-free u d f) = go (decLt 0 (p0 c))
+    where
+      go : Dec (0 < p0 c) → (opensFree c || (opensUp c || opensDown c)) ≡ true
+      go (yes on) =
+          let (low-le, high-le, risen) = f on in
+          rw (
+            eq-eqb (upStage c) 0 u,
+            eq-eqb (downStage c) 0 d,
+            ne-eqb (p0 c) 0 (λ z. omega arith),
+            between-within (low c) (high c) (p0 c) (low-le, high-le),
+            le-leb (UD c) (h c) risen,
+          )
+      go (no off) =
+          rw (eq-eqb (upStage c) 0 u, eq-eqb (downStage c) 0 d, eq-eqb (p0 c) 0 (omega arith))
+  opens (opened-up d a b e t) =
+      rw (
+        ne-eqb (upStage c) 0 (λ z. omega arith),
+        eq-eqb (downStage c) 0 d,
+        between-within 1 (UD c - 1) (upStage c) (a, omega arith),
+        eq-eqb (p0 c) (PU c (upStage c)) e,
+        eq-eqb (h c) (upStage c) t,
+      )
+  opens (opened-down u a b e t) =
+      rw (
+        eq-eqb (upStage c) 0 u,
+        ne-eqb (downStage c) 0 (λ z. omega arith),
+        between-within 2 (DD c) (downStage c) (a, b),
+        eq-eqb (p0 c) (PD c (downStage c)) e,
+        le-leb (UD c + downStage c - 1) (h c) (omega arith),
+      )
+
   passes7 : Limited c 7 → refusal7 c ≡ false
   unfolding refusal7
-  passes7 (limit7 o) = go (ltb 0 (p0 c)) refl
-    where
-      go : (t : Bool) → ltb 0 (p0 c) ≡ t → refusal7 c ≡ false
-      go true e =
-          let on = ltb-true 0 (p0 c) e in
-          rw (
-            between-within 1 mostElapsed (h c) (o .elapsed),
-            e,
-            ne-eqb (p0 c) 0 (λ z. omega arith),
-            between-within (low c) (high c) (p0 c) (o .initial on),
-            le-ltb (h c) (UD c) (o .risen on),
-          )
-      go false e =
-          rw (
-            between-within 1 mostElapsed (h c) (o .elapsed),
-            e,
-            eq-eqb (p0 c) 0 (omega (arith, ltb-false 0 (p0 c) e)),
-          )
+  passes7 (limit7 o) = rw (between-within 1 mostElapsed (h c) (o .elapsed), opens (opened o))
 
   passes8 : Limited c 8 → refusal8 c ≡ false
   unfolding refusal8
@@ -146,12 +174,34 @@ module _ (c : Case) where
   limited6 : (refusal6 c ≡ false) ↔ Limited c 6
   limited6 = (λ e. limit6 (shaped (trajectories c e)), passes6)
 
+  published : Between 1 mostElapsed (h c) → Opened c → Opening c
+  published b (opened-free u d f) =
+      record {
+        elapsed = b;
+        single = λ some. d;
+        free = λ x y. f;
+        up = λ some. absurd (omega arith);
+        down = λ some. absurd (omega arith);
+      }
+  published b (opened-up d x y e t) =
+      record {
+        elapsed = b;
+        single = λ some. d;
+        free = λ none. absurd (omega arith);
+        up = λ some. (y, e, t);
+        down = λ some. absurd (omega arith);
+      }
+  published b (opened-down u x y e t) =
+      record {
+        elapsed = b;
+        single = λ some. absurd (omega arith);
+        free = λ p none. absurd (omega arith);
+        up = λ some. absurd (omega arith);
+        down = λ some. (x, y, e, t);
+      }
+
   limited7 : (refusal7 c ≡ false) ↔ Limited c 7
-  limited7 = (
-    λ e. let (h, p, u) = opening c e in
-        limit7 (record { elapsed = h; initial = λ on. (p .1 on, p .0); risen = u }),
-    passes7,
-  )
+  limited7 = (λ e. let (b, o) = opening c e in limit7 (published b o), passes7)
 
   limited8 : (refusal8 c ≡ false) ↔ Limited c 8
   limited8 = (λ e. limit8 (record { orders = orders c e }), passes8)

@@ -10,7 +10,7 @@ use Rattle.model.specs.declared.Case.{Case}
 use Rattle.model.specs.Symbols.{sum, last, A, B, C, F, price}
 use Rattle.model.specs.Marks.{p, v, y, z}
 use Rattle.model.specs.Profit.{energy, charge, profitAt, profitTo, profitOf}
-use Rattle.model.specs.Words.{sumℤ}
+use Rattle.model.specs.Words.{sumℤ, markingOf, earned}
 use Rattle.model.proofs.CheckLaws.{before-is}
 
 -- what was earned, with what was spent on four accounts, is what was sold; so it is after one hour more
@@ -87,7 +87,7 @@ module _ (c : Case) (l : List ℕ) where
       (F c *ℤ pos (both k)) (A c *ℤ pos (2 * v c l k)) (B c *ℤ pos (2 * y c l k)) (C c *ℤ pos (2 * z c l k))
       (sales-to n))
 
-  pub profit-sales : profitOf c l ≡ sold (last c) -ℤ spent (last c)
+  profit-sales : profitOf c l ≡ sold (last c) -ℤ spent (last c)
   unfolding profitOf
   profit-sales =
       parts-eq (profitTo c l (last c)) (sold (last c) -ℤ spent (last c))
@@ -97,3 +97,7 @@ module _ (c : Case) (l : List ℕ) where
         parts-+ (profitTo c l (last c)) (spent (last c)),
         parts-- (sold (last c)) (spent (last c)),
       ))
+
+  pub profit-earned : profitOf c l ≡ earned c (markingOf c l)
+  unfolding v
+  profit-earned = profit-sales

@@ -1,5 +1,5 @@
 -- Two records that one file holds keep the same limits. Assumes nothing.
-use mathlib.Core.Path.{_≡_, refl, sym, _∙_}
+use mathlib.Core.Path.{_≡_, refl, sym, ap, _∙_}
 use mathlib.Core.Logic.{⊎-elim}
 use Prim.Native.Nat.{ℕ, zero, suc, _+_, _≤_, _<_}
 use native.Mathlib.Omega.{arith}
@@ -8,7 +8,9 @@ use lib.IntN.{ℤ}
 use Rattle.model.specs.declared.Case.{Case}
 use Rattle.model.specs.Symbols.{stage, hourly, priced}
 use Rattle.model.specs.Published.{Counts, Costs, Trajectories, Opening, Orders, Prices, Limited, limit2, limit3}
-use Rattle.model.specs.Published.{limit4, limit5, limit6, limit7, limit8, limit13, Signed, above, below, Holds}
+use Rattle.model.specs.Published.{limit4, limit5, limit6, limit7, limit8, limit13, Signed, above, below}
+use Rattle.model.specs.Published.{Stageless, Holds}
+use Rattle.model.proofs.PublishedLaws.{stageless?}
 
 -- bits have one signed number
 pub signed-unique : {n : ℕ} {a b : ℤ} → Signed n a → Signed n b → a ≡ b
@@ -38,6 +40,13 @@ module _ {s : List ℕ} {c d : Case} (h : Holds s c) (k : Holds s d) (counts : C
   unfolding stage
   fall-same zero l = refl
   fall-same (suc i) l = sym (k .fall i l) ∙ h .fall i (omega (arith, falls-same))
+
+  stages-same : (d .upstage ≡ c .upstage) × (d .downstage ≡ c .downstage)
+  stages-same = go (stageless? s)
+    where
+      go : Dec (Stageless s) → (d .upstage ≡ c .upstage) × (d .downstage ≡ c .downstage)
+      go (yes z) = omega (arith, h .no-stages z, k .no-stages z)
+      go (no z) = (sym (k .upstage z) ∙ h .upstage z, sym (k .downstage z) ∙ h .downstage z)
 
   order-same : (i : ℕ) → i ≤ d .hours → hourly (d .orders) i ≡ hourly (c .orders) i
   unfolding hourly
@@ -74,10 +83,19 @@ module _ {s : List ℕ} {c d : Case} (h : Holds s c) (k : Holds s d) (counts : C
 
   opening-same : Opening c → Opening d
   opening-same o =
+      let (up, down) = stages-same in
       record {
         elapsed = omega arith;
-        initial = λ on. omega (arith, o .initial (omega arith));
-        risen = λ on. omega (arith, o .risen (omega arith));
+        single = λ some. omega (arith, o .single (omega arith));
+        free = λ x y on. omega (arith, rises-same, o .free (omega arith) (omega arith) (omega arith));
+        up = λ some.
+            let (lower, output, aged) = o .up (omega arith) in
+            let same = rise-same (d .upstage) (omega (arith, rises-same)) ∙ ap (stage (c .rise)) up in
+            omega (arith, rises-same);
+        down = λ some.
+            let (upper, lower, output, aged) = o .down (omega arith) in
+            let same = fall-same (d .downstage) (omega (arith, falls-same)) ∙ ap (stage (c .fall)) down in
+            omega (arith, rises-same, falls-same);
       }
 
   orders-same : Orders c → Orders d

@@ -1,5 +1,5 @@
 -- What `write` leaves, and the round trips: the written bytes hold the record and are read back as it; the record of a
--- file of form 2 is written as that file, and that of any file is read again. Assumes nothing.
+-- file of form 3 is written as that file, and that of any file is read again. Assumes nothing.
 use mathlib.Core.Path.{_≡_, refl, sym, ap, _∙_, subst}
 use mathlib.Core.List.{List, _++_}
 use Prim.Native.Nat.{ℕ, _+_, _*_, _-_, _^_, _≤_, _<_}
@@ -13,21 +13,23 @@ use Rattle.model.specs.declared.Case.{Case}
 use Rattle.model.specs.declared.Outcome.the-variants.{Accepted}
 use Rattle.model.specs.declared.Written.the-variants.{Bytes, Refused}
 use Rattle.model.specs.Limits.{words}
-use Rattle.model.specs.Forms.{unitWidths, oldForm, width}
+use Rattle.model.specs.Forms.{stagedWidths, oldForm, newest, width}
 use Rattle.model.specs.Layout.{AllBytes, noMills, unsigned, zeroed, fileOf, bytesOf}
 use Rattle.model.specs.Refusals.{refusalOf}
 use Rattle.model.specs.Answers.{Writing, readOf, writeOf, outcomeNumber, writtenNumbers}
 use Rattle.model.specs.Published.{word, above, Holds}
-use Rattle.model.specs.Promises.{WritesFile, WritesNone}
-use Rattle.model.proofs.FormsLaws.{oldFront, front}
+use Rattle.model.specs.Promises.{IsForm3, WritesFile, WritesNone}
+use Rattle.model.proofs.FormsLaws.{stageWidths, oldFront, front}
 use Rattle.model.proofs.WrittenLaws.{length-fileOf}
-use Rattle.model.proofs.RereadLaws.{new-length, new-first, new-reads, old-reads as fileOf-reads}
+use Rattle.model.proofs.RereadLaws.{numbered-length, new-first, new-number, new-reads}
+use Rattle.model.proofs.RereadLaws.{old-reads as fileOf-reads}
 use Rattle.model.proofs.AcceptedLaws.{read-writes as fileOf-read, read-accepted, read-limits}
 use Rattle.model.proofs.SetsLaws.{sets-front}
 use Rattle.model.proofs.CodecLaws.{writeOf-refused, writeOf-short, writeOf-done}
 use Rattle.model.proofs.CutLaws.{zeroed-caseOf}
 use Rattle.model.proofs.SameLimitsLaws.{signed-unique}
-use Rattle.model.proofs.HoldsLaws.{offset-word, holds-bytesOf, read-holds}
+use Rattle.model.proofs.PublishedLaws.{offset-word, last-bytes}
+use Rattle.model.proofs.HoldsLaws.{holds-bytesOf, read-holds}
 
 -- a file in front of the lent bytes, and nothing written
 abbrev filed : List ℕ → List ℕ → Writing
@@ -40,17 +42,26 @@ unfiled-none : {n : ℕ} {lent : List ℕ} {w : Writing} → unfiled n lent ≡ 
 unfiled-none {n} {lent} e = subst (WritesNone n lent) e (record { numbers = refl; untouched = refl })
 
 -- the length of the file of a case
-abbrev fileLength : Case → ℕ
-fileLength c = front + width unitWidths + 2 + 2 * c .rises + 2 * c .falls + 5 * c .hours
+abbrev pub fileLength : Case → ℕ
+fileLength c = front + width stagedWidths + 2 + 2 * c .rises + 2 * c .falls + 5 * c .hours
 
 pub length-bytesOf : (c : Case) → length (bytesOf c) ≡ fileLength c
-length-bytesOf c = length-fileOf c _ ∙ new-length c
+length-bytesOf c = length-fileOf c newest ∙ numbered-length c (newest .0) stageWidths
 
 module _ (c : Case) (lent : List ℕ) where
   writeOf-filed : refusalOf c ≡ 0 → length (bytesOf c) ≤ length lent → writeOf c lent ≡ filed (bytesOf c) lent
   writeOf-filed e room =
       sym (writeOf-done c lent e room)
       ∙ ap (λ l. record { answer = Bytes (length (bytesOf c)); lent = l }) (sets-front (bytesOf c) lent room)
+
+  form3 : refusalOf c ≡ 0 → IsForm3 (bytesOf c)
+  form3 e =
+      let held = holds-bytesOf c e in
+      let first = sym (offset-word (bytesOf c) 0) ∙ new-first c e in
+      record {
+        first = first;
+        number = sym (last-bytes (bytesOf c) (held .chained) (held .measured .form) first) ∙ new-number c e;
+      }
 
   -- ---- what a writing leaves
   pub written : refusalOf c ≡ 0 → fileLength c ≤ length lent → WritesFile c lent (writeOf c lent)
@@ -60,7 +71,7 @@ module _ (c : Case) (lent : List ℕ) where
       subst (WritesFile c lent) (sym (writeOf-filed e (omega (arith, length-bytesOf c))))
       (record {
         numbers = ap (λ n. (0, n)) (length-bytesOf c);
-        form = ap (λ l. word l 0) (take-append-seam b rest) ∙ sym (offset-word b 0) ∙ new-first c e;
+        form = subst IsForm3 (sym (take-append-seam b rest)) (form3 e);
         file = subst (λ l. Holds l c) (sym (take-append-seam b rest)) (holds-bytesOf c e);
         beyond = drop-append-seam b rest;
       })
@@ -96,10 +107,12 @@ module _ (c : Case) (lent : List ℕ) where
       ∙ new-reads c e
 
 module _ (s : List ℕ) (accepted : readOf s .outcome ≡ Accepted) where
-  pub read-writes : (lent : List ℕ) → AllBytes s → word s 0 ≡ front → length s ≤ length lent
+  pub read-writes : (lent : List ℕ) → AllBytes s → IsForm3 s → length s ≤ length lent
       → writeOf (readOf s .case) lent ≡ record { answer = Bytes (length s); lent = s ++ drop (length s) lent }
-  read-writes lent a first room =
-      let b = fileOf-read s a accepted (λ z. omega (arith, offset-word s 0)) in
+  read-writes lent a form room =
+      let held = read-holds s (ap outcomeNumber accepted) in
+      let number = last-bytes s (held .chained) (held .measured .form) (form .first) ∙ form .number in
+      let b = fileOf-read s a accepted (λ z. omega (arith, offset-word s 0, form .first)) number in
       writeOf-filed (readOf s .case) lent (read-limits s accepted) (omega (arith, ap length b))
       ∙ ap (λ file. filed file lent) b
 
@@ -129,8 +142,9 @@ unfolding unsigned
 short-price (pos n) h = omega (arith, leb→le n (words - 1) (h .1 .le))
 short-price (negsuc n) h = absurd (h .0 .le)
 
-pub old-reads : (c : Case) → refusalOf c ≡ 0
+pub old-reads : (c : Case) → refusalOf c ≡ 0 → c .upstage ≡ 0 → c .downstage ≡ 0
     → ((i : ℕ) → i < c .hours
     → (pos 0 ≤ℤ getD (c .prices) i noMills .0) × (getD (c .prices) i noMills .0 ≤ℤ pos (words - 1)))
     → readOf (fileOf c oldForm) ≡ record { outcome = Accepted; case = zeroed c }
-old-reads c e low = fileOf-reads c e (λ k h. short-price (getD (c .prices) k noMills .0) (low k h))
+old-reads c e up down low =
+    fileOf-reads c e up down (λ k h. short-price (getD (c .prices) k noMills .0) (low k h))

@@ -4,19 +4,22 @@ use mathlib.Core.Path.{_≡_, refl, sym, ap, _∙_}
 use mathlib.Core.Logic.{⊎-elim, _↔_}
 use mathlib.Core.List.{List}
 use Prim.Native.Nat.{ℕ, zero, suc, _+_, _-_, _≤_, _<_}
-use native.Mathlib.Decide.{ℕ-discrete, decLt}
+use native.Mathlib.Decide.{ℕ-discrete, decLe, decLt}
 use native.Mathlib.Nat.{eq-or-lt-of-le}
 use native.Mathlib.Omega.{arith}
-use lib.Dec.{T}
+use borrow.Author.Tests.{eq-eqb, eqb-true}
+use lib.Dec.{T, eqb}
 use Rattle.model.specs.declared.Case.{Case}
-use Rattle.model.specs.Symbols.{last, h}
-use Rattle.model.specs.Marks.{p, v, y, z}
+use Rattle.model.specs.Symbols.{bit, UD, DD, last, h, upStage}
+use Rattle.model.specs.Marks.{p, v, y, yBack, starting, closes, z}
 use Rattle.model.specs.Rules.{hoursSince, rule21, rule22}
-use Rattle.model.specs.Words.{Starts, Stops, Latest, Rested}
-use Rattle.model.proofs.MarksLaws.{v-on, v-off, y-zero, z-zero, y-past, z-past, y-after-off, y-after-on}
-use Rattle.model.proofs.MarksLaws.{z-at-off, z-at-on}
+use Rattle.model.specs.Words.{Starts, Settled, Stops, stops-inside, stops-after, StartsBack, starts-inside}
+use Rattle.model.specs.Words.{starts-opening, Latest, Rested}
+use Rattle.model.proofs.MarksLaws.{v-on, v-off, y-zero, z-zero, y-past, y-after-off, y-after-on, z-at-off}
+use Rattle.model.proofs.MarksLaws.{z-at-on, z-after, yBack-in, yBack-out, bit-true, closes-of, of-closes}
+use Rattle.model.proofs.SymbolsLaws.{sum-zeros, term-le-sum}
 use Rattle.model.proofs.RulesLaws.{hoursSince-zero, hoursSince-mark, hoursSince-none}
-use Rattle.model.proofs.TimesLaws.{time-of, of-time, y-le, z-le}
+use Rattle.model.proofs.TimesLaws.{time-of, of-time, y-le, z-le, yBack-le}
 
 module _ (c : Case) (l : List ℕ) where
   -- ---- a mark by two outputs: it is that of the second where the first is off-line, and else 0
@@ -39,9 +42,9 @@ module _ (c : Case) (l : List ℕ) where
     marked q r = off (v-off c l i q) ∙ v-on c l j r
 
   -- an hour that is marked lies inside the day
-  inside : (f : ℕ → ℕ) → f 0 ≡ 0 → ((k : ℕ) → last c < k → f k ≡ 0) → (k : ℕ) → f k ≡ 1 → (1 ≤ k) × (k ≤ last c)
-  inside f zero-is past zero e = absurd (omega arith)
-  inside f zero-is past (suc k) e = (omega arith, go (decLt (last c) (suc k)))
+  in-day : (f : ℕ → ℕ) → f 0 ≡ 0 → ((k : ℕ) → last c < k → f k ≡ 0) → (k : ℕ) → f k ≡ 1 → (1 ≤ k) × (k ≤ last c)
+  in-day f zero-is past zero e = absurd (omega arith)
+  in-day f zero-is past (suc k) e = (omega arith, go (decLt (last c) (suc k)))
     where
       go : Dec (last c < suc k) → suc k ≤ last c
       go (yes b) = absurd (omega (arith, past (suc k) b))
@@ -58,30 +61,96 @@ module _ (c : Case) (l : List ℕ) where
 
       of-mark : y c l k ≡ 1 → Starts c l k
       of-mark e =
-          let d = inside (y c l) (y-zero c l) (y-past c l) k e in
+          let d = in-day (y c l) (y-zero c l) (y-past c l) k e in
           record {
             inside = d;
             off-line = marked-off (y c l k) (k - 1) k (off d) (on d) e;
             on-line = marked-on (y c l k) (k - 1) k (off d) (on d) e;
           }
 
-  pub stops : (k : ℕ) → (z c l k ≡ 1) ↔ Stops c l k
-  stops k = (of-mark, λ s. marked (z c l k) k (k - 1) (off (s .inside)) (on (s .inside)) (s .off-line) (s .on-line))
+  -- ---- y(k−i+1), and the start-ups that hour T lies in
+  back-of : (k i : ℕ) → StartsBack c l k i → yBack c l k i ≡ 1
+  back-of k i (starts-inside s e g) =
+      yBack-in c l k i (omega (arith, g .inside .0)) ∙ ap (y c l) (omega arith) ∙ starts s .1 g
+  back-of k i (starts-opening a e) =
+      yBack-out c l k i (omega arith) ∙ ap bit (eq-eqb (i - k) (upStage c) (omega arith))
+
+  of-back : (k i : ℕ) → yBack c l k i ≡ 1 → StartsBack c l k i
+  of-back k i e = go (decLt k i)
     where
-      off : (1 ≤ k) × (k ≤ last c) → v c l k ≡ 0 → z c l k ≡ v c l (k - 1)
-      off (a, b) = z-at-off c l k a b
+      go : Dec (k < i) → StartsBack c l k i
+      go (yes h) =
+          let d = bit-true (eqb (i - k) (upStage c)) (sym (yBack-out c l k i h) ∙ e) in
+          starts-opening (omega (arith, eqb-true (i - k) (upStage c) d)) (omega (arith, eqb-true (i - k) (upStage c) d))
+      go (no h) =
+          starts-inside (k + 1 - i) (omega arith) (starts (k + 1 - i) .0 (sym (yBack-in c l k i (omega arith)) ∙ e))
 
-      on : (1 ≤ k) × (k ≤ last c) → v c l k ≡ 1 → z c l k ≡ 0
-      on (a, b) = z-at-on c l k a b
+  pub starts-back : (k i : ℕ) → (yBack c l k i ≡ 1) ↔ StartsBack c l k i
+  starts-back k i = (of-back k i, back-of k i)
 
-      of-mark : z c l k ≡ 1 → Stops c l k
-      of-mark e =
-          let d = inside (z c l) (z-zero c l) (z-past c l) k e in
-          record {
-            inside = d;
-            on-line = marked-on (z c l k) k (k - 1) (off d) (on d) e;
-            off-line = marked-off (z c l k) k (k - 1) (off d) (on d) e;
-          }
+  -- a start-up whose start stands i − 1 hours before T
+  held-up : (i : ℕ) → 1 ≤ i → i ≤ UD c → StartsBack c l (last c) i → starting c l (last c) ≡ 0 → ⊥
+  unfolding starting
+  held-up i a b s e =
+      omega (arith, back-of (last c) i s, term-le-sum (λ i. yBack c l (last c) i) (UD c) i a b)
+
+  pub settled-of : starting c l (last c) ≡ 0 → Settled c l
+  settled-of e = record { started = λ s g. after s g (decLe (s + UD c) (last c)); opened = λ a. past a (decLt (UD c) _) }
+    where
+      after : (s : ℕ) → Starts c l s → Dec (s + UD c ≤ last c) → s + UD c ≤ last c
+      after s g (yes h) = h
+      after s g (no h) =
+          let (a, b) = g .inside in
+          absurd (held-up (last c + 1 - s) (omega arith) (omega arith) (starts-inside s (omega arith) g) e)
+
+      past : 1 ≤ upStage c → Dec (UD c < last c + upStage c) → UD c < last c + upStage c
+      past a (yes h) = h
+      past a (no h) = absurd (held-up (last c + upStage c) (omega arith) (omega arith) (starts-opening a refl) e)
+
+  pub of-settled : Settled c l → starting c l (last c) ≡ 0
+  unfolding starting
+  of-settled s = sum-zeros (λ i. yBack c l (last c) i) (UD c) (λ i a b. none i b (ℕ-discrete (yBack c l (last c) i) 0))
+    where
+      not-back : (i : ℕ) → i ≤ UD c → StartsBack c l (last c) i → ⊥
+      not-back i b (starts-inside t e g) = omega (arith, s .started t g)
+      not-back i b (starts-opening a e) = omega (arith, s .opened a)
+
+      none : (i : ℕ) → i ≤ UD c → Dec (yBack c l (last c) i ≡ 0) → yBack c l (last c) i ≡ 0
+      none i b (yes e) = e
+      none i b (no e) = absurd (not-back i b (of-back (last c) i (omega (arith, yBack-le c l (last c) i))))
+
+  -- ---- stops
+  module _ (k : ℕ) where
+    off : 1 ≤ k → k ≤ last c → v c l k ≡ 0 → z c l k ≡ v c l (k - 1)
+    off a b = z-at-off c l k a b
+
+    on : 1 ≤ k → k ≤ last c → v c l k ≡ 1 → z c l k ≡ 0
+    on a b = z-at-on c l k a b
+
+    stop-of : Stops c l k → z c l k ≡ 1
+    stop-of (stops-inside a b o q) = marked (z c l k) k (k - 1) (off a b) (on a b) q o
+    stop-of (stops-after i a b e q s) =
+        z-after c l k (omega arith)
+        ∙ ap (λ j. bit (closes c l j)) (let r : last c + DD c + 1 - k ≡ i = omega arith in r)
+        ∙ ap bit (closes-of c l i a b q (of-settled s))
+
+    of-stop : z c l k ≡ 1 → Stops c l k
+    of-stop e = go (ℕ-discrete k 0) (decLt (last c) k)
+      where
+        go : Dec (k ≡ 0) → Dec (last c < k) → Stops c l k
+        go (yes d) h = absurd (omega (arith, ap (z c l) d, z-zero c l))
+        go (no d) (yes h) =
+            let i = last c + DD c + 1 - k in
+            let (a, b, q, s) = of-closes c l i (bit-true (closes c l i) (sym (z-after c l k h) ∙ e)) in
+            stops-after i a b (omega arith) q (settled-of s)
+        go (no d) (no h) =
+            let a : 1 ≤ k = omega arith in
+            let b : k ≤ last c = omega arith in
+            stops-inside a b (marked-on (z c l k) k (k - 1) (off a b) (on a b) e)
+            (marked-off (z c l k) k (k - 1) (off a b) (on a b) e)
+
+  pub stops : (k : ℕ) → (z c l k ≡ 1) ↔ Stops c l k
+  stops k = (of-stop k, stop-of k)
 
 -- ---- the hours since the latest mark, for marks that are 1 exactly at an event, from hour 1 on
 module _ (f : ℕ → ℕ) (event : ℕ → Type 0) (is : (k : ℕ) → (f k ≡ 1) ↔ event k) (le : (k : ℕ) → f k ≤ 1)
@@ -143,23 +212,32 @@ module _ (f : ℕ → ℕ) (event : ℕ → Type 0) (is : (k : ℕ) → (f k ≡
           omega (arith, hoursSince-mark held f n k mark, r .since (suc k) latest)
 
 -- ---- rules 21 and 22
+module _ (f : ℕ → ℕ) (le : (k : ℕ) → f k ≤ 1) (zero-is : f 0 ≡ 0) (held m k : ℕ) where
+  rested : m ≤ hoursSince held f (suc k) k → Rested (λ s. f s ≡ 1) held m (suc k)
+  rested = rested-of-hours f (λ s. f s ≡ 1) (λ s. (λ e. e, λ e. e)) le zero-is held m (suc k) k refl
+
+  of-rested : Rested (λ s. f s ≡ 1) held m (suc k) → m ≤ hoursSince held f (suc k) k
+  of-rested =
+      hours-of-rested f (λ s. f s ≡ 1) (λ s. (λ e. e, λ e. e)) le zero-is held m (suc k) k (omega arith)
+      (λ i a b. absurd (omega arith))
+
 module _ (c : Case) (l : List ℕ) (k : ℕ) where
-  pub up-time : T (rule21 c l (suc k)) ↔ (Stops c l (suc k) → Rested (Starts c l) (h c) (c .minup .0) (suc k))
+  pub up-time : T (rule21 c l (suc k))
+      ↔ (z c l (suc k) ≡ 1 → Rested (λ s. y c l s ≡ 1) (h c) (c .minup .0) (suc k))
   unfolding rule21
   up-time = (
-    λ t s. rested-of-hours (y c l) (Starts c l) (starts c l) (y-le c l) (y-zero c l) (h c) (c .minup .0) (suc k) k refl
-        (time-of (z c l (suc k)) (c .minup .0) (hoursSince (h c) (y c l) (suc k) k) t (stops c l (suc k) .1 s)),
+    λ t e. rested (y c l) (y-le c l) (y-zero c l) (h c) (c .minup .0) k
+        (time-of (z c l (suc k)) (c .minup .0) (hoursSince (h c) (y c l) (suc k) k) t e),
     λ f. of-time (z c l (suc k)) (c .minup .0) (hoursSince (h c) (y c l) (suc k) k) (z-le c l (suc k))
-        (λ e. hours-of-rested (y c l) (Starts c l) (starts c l) (y-le c l) (y-zero c l) (h c) (c .minup .0) (suc k) k
-        (omega arith) (λ i a b. absurd (omega arith)) (f (stops c l (suc k) .0 e))),
+        (λ e. of-rested (y c l) (y-le c l) (y-zero c l) (h c) (c .minup .0) k (f e)),
   )
 
-  pub down-time : T (rule22 c l (suc k)) ↔ (Starts c l (suc k) → Rested (Stops c l) (h c) (c .mindown .0) (suc k))
+  pub down-time : T (rule22 c l (suc k))
+      ↔ (y c l (suc k) ≡ 1 → Rested (λ s. z c l s ≡ 1) (h c) (c .mindown .0) (suc k))
   unfolding rule22
   down-time = (
-    λ t s. rested-of-hours (z c l) (Stops c l) (stops c l) (z-le c l) (z-zero c l) (h c) (c .mindown .0) (suc k) k refl
-        (time-of (y c l (suc k)) (c .mindown .0) (hoursSince (h c) (z c l) (suc k) k) t (starts c l (suc k) .1 s)),
+    λ t e. rested (z c l) (z-le c l) (z-zero c l) (h c) (c .mindown .0) k
+        (time-of (y c l (suc k)) (c .mindown .0) (hoursSince (h c) (z c l) (suc k) k) t e),
     λ f. of-time (y c l (suc k)) (c .mindown .0) (hoursSince (h c) (z c l) (suc k) k) (y-le c l (suc k))
-        (λ e. hours-of-rested (z c l) (Stops c l) (stops c l) (z-le c l) (z-zero c l) (h c) (c .mindown .0) (suc k) k
-        (omega arith) (λ i a b. absurd (omega arith)) (f (starts c l (suc k) .0 e))),
+        (λ e. of-rested (z c l) (z-le c l) (z-zero c l) (h c) (c .mindown .0) k (f e)),
   )

@@ -35,14 +35,17 @@ abbrev pub Runs : Case → (St → Type 0) → (ℕ → ℕ → Type 0) → ℕ 
 Runs U last obeys k s [] = last s
 Runs U last obeys k s (q ∷ l) = (t : St) × Step U q s t × obeys (suc k) q × Runs U last obeys (suc k) t l
 
--- the states in which a day may end: none of a shut-down
+-- a day may end in any state (request F-5)
 abbrev pub Final : St → Type 0
-Final (off d) = Unit {0}
-Final (up i) = Unit {0}
-Final (run r u) = Unit {0}
-Final (down i) = ⊥
+Final s = Unit {0}
 
--- the state in which a day opens at output n, which is 0 or from the minimum on
-abbrev pub first : Case → ℕ → St
-first U zero = off (U .elapsed .0)
-first U (suc n) = run (suc n) (U .elapsed .0)
+-- the state in which a day opens, by its stages and its output: in a start-up, in a shut-down, off-line or on-line
+abbrev pub first : Case → ℕ → ℕ → ℕ → St
+first U (suc i) j n = up (suc i)
+first U zero (suc j) n = down (suc j)
+first U zero zero zero = off (U .elapsed .0)
+first U zero zero (suc n) = run (suc n) (U .elapsed .0)
+
+-- the stop of the shut-down in which a day opens, DD + 1 − stage hours on, keeps the minimum up time
+abbrev pub LateStop : Case → Type 0
+LateStop U = 1 ≤ U .downstage → U .minup .0 + U .downstage ≤ U .elapsed .0 + U .falls

@@ -1,7 +1,7 @@
--- The forms of a case file (document 01, "Case file"; request F-2): one table of widths, from which reading, writing,
--- lengths and refusals 1, 2 and 12 follow. Definitions only. Assumes nothing.
+-- The forms of a case file (document 01, "Case file"; requests F-2 and F-5): one table of widths, from which reading,
+-- writing, lengths and refusals 1, 2 and 12 follow. Definitions only. Assumes nothing.
 use mathlib.Core.Bool.{Bool, true, _&&_, not, cond}
-use mathlib.Core.List.{List, [], _∷_}
+use mathlib.Core.List.{List, [], _∷_, _++_}
 use Prim.Native.Nat.{ℕ, _+_, _*_}
 use lib.Dec.{eqb}
 use lib.ListN.{length, getD}
@@ -11,21 +11,32 @@ use Rattle.model.specs.Limits.{mostStages, mostHours}
 abbrev pub Form : Type 0
 Form = List (List ℕ)
 
--- the unit: capacity, minimum output, RU, RD, minimum up time, minimum down time, F, A, B, C, p(0), h
+-- the unit: capacity, minimum output, RU, RD, minimum up time, minimum down time, F, A, B, C, p(0), h; and with the
+-- start-up stage and the shut-down stage
 abbrev pub unitWidths : List ℕ
 unitWidths = 2 ∷ 2 ∷ 2 ∷ 2 ∷ 2 ∷ 2 ∷ 4 ∷ 4 ∷ 4 ∷ 4 ∷ 2 ∷ 2 ∷ []
 
--- unit, start-up trajectory, shut-down trajectory, hours (price and order), form number: the old form, which has no
--- number, and the newest with its number
-abbrev pub oldForm : Form
-oldForm = unitWidths ∷ (2 ∷ []) ∷ (2 ∷ []) ∷ (2 ∷ 1 ∷ []) ∷ []
+abbrev pub stagedWidths : List ℕ
+stagedWidths = unitWidths ++ (1 ∷ 1 ∷ [])
+
+-- a form whose unit and price have these widths, with what follows the hours: unit, start-up trajectory, shut-down
+-- trajectory, hours (price and order)
+abbrev pub formWith : List ℕ → ℕ → Form → Form
+formWith unit price more = unit ∷ (2 ∷ []) ∷ (2 ∷ []) ∷ (price ∷ 1 ∷ []) ∷ more
+
+-- the forms by their numbers: the old one, which does not hold its number, form 2, and the newest
+abbrev pub oldForm : ℕ × Form
+oldForm = (1, formWith unitWidths 2 [])
+
+abbrev pub form2 : ℕ × Form
+form2 = (2, formWith unitWidths 4 ((2 ∷ []) ∷ []))
 
 abbrev pub newest : ℕ × Form
-newest = (2, unitWidths ∷ (2 ∷ []) ∷ (2 ∷ []) ∷ (4 ∷ 1 ∷ []) ∷ (2 ∷ []) ∷ [])
+newest = (3, formWith stagedWidths 4 ((2 ∷ []) ∷ []))
 
--- the forms that have a number
+-- the forms that hold their number
 abbrev pub numbered : List (ℕ × Form)
-numbered = newest ∷ []
+numbered = newest ∷ form2 ∷ []
 
 -- entries of each section, at the most; there is at least one
 abbrev pub mostEntries : List ℕ

@@ -1,6 +1,6 @@
 -- A second view of the limits and the layout: the published numbers field by field, and the bytes of a file at their
--- offsets (document 01, "Case file" and "Refusal list"; request F-2). The promises tie it to Limits, Forms, Refusals
--- and Layout; no entry rests on it. Definitions only. Assumes nothing.
+-- offsets (document 01, "Case file" and "Refusal list"; requests F-2 and F-5). The promises tie it to Limits, Forms,
+-- Refusals and Layout; no entry rests on it. Definitions only. Assumes nothing.
 use mathlib.Core.Path.{_≡_}
 use mathlib.Core.Logic.{_⊎_}
 use mathlib.Core.List.{List, [], _∷_, _++_}
@@ -45,8 +45,16 @@ module _ (c : Case) where
 
   pub record Opening : Type 0 where
     pub elapsed : (1 ≤ c .elapsed .0) × (c .elapsed .0 ≤ 10000)
-    pub initial : 1 ≤ c .initial .0 → (c .minimum .0 ≤ c .initial .0) × (c .initial .0 ≤ c .capacity .0)
-    pub risen : 1 ≤ c .initial .0 → c .rises ≤ c .elapsed .0
+    pub single : 1 ≤ c .upstage → c .downstage ≡ 0
+    pub free : c .upstage ≡ 0 → c .downstage ≡ 0 → 1 ≤ c .initial .0
+        → (c .minimum .0 ≤ c .initial .0) × (c .initial .0 ≤ c .capacity .0) × (c .rises ≤ c .elapsed .0)
+    pub up : 1 ≤ c .upstage
+        → (c .upstage < c .rises) × (c .initial .0 ≡ stage (c .rise) (c .upstage)) × (c .elapsed .0 ≡ c .upstage)
+    pub down : 1 ≤ c .downstage
+        → (2 ≤ c .downstage)
+        × (c .downstage ≤ c .falls)
+        × (c .initial .0 ≡ stage (c .fall) (c .downstage))
+        × (c .rises + c .downstage ≤ c .elapsed .0 + 1)
 
   pub record Orders : Type 0 where
     pub orders : (k : ℕ) → 1 ≤ k → k ≤ c .hours → hourly (c .orders) k ≤ 2
@@ -92,7 +100,12 @@ pub data Signed (n : ℕ) : ℤ → Type 0 where
   above : n < 2147483648 → Signed n (pos n)
   below : 2147483648 ≤ n → Signed n (pos n -ℤ pos 4294967296)
 
--- Pair i stands at byte 4 i. The first offset is 16 in the old form and 20 in form 2
+-- a file without stages: of the old form, or of form 2 by its last two bytes
+pub data Stageless (s : List ℕ) : Type 0 where
+  old : word s 0 ≡ 16 → Stageless s
+  two : word s 0 ≡ 20 → word s (length s - 2) ≡ 2 → Stageless s
+
+-- Pair i stands at byte 4 i. The first offset is 16 in the old form and 20 in those that hold their number
 module _ (s : List ℕ) where
   -- the sections follow one another to the end of the file
   pub record Chained : Type 0 where
@@ -107,7 +120,8 @@ module _ (s : List ℕ) where
 
   -- their lengths are those of a record's counts
   pub record Measured (c : Case) : Type 0 where
-    pub unit : word s 2 ≡ 32
+    pub old-unit : Stageless s → word s 2 ≡ 32
+    pub unit : (Stageless s → ⊥) → word s 2 ≡ 34
     pub rise : word s 6 ≡ 2 * c .rises
     pub fall : word s 10 ≡ 2 * c .falls
     pub old-hours : word s 0 ≡ 16 → word s 14 ≡ 3 * c .hours
@@ -130,6 +144,9 @@ module _ (s : List ℕ) where
     pub stopcost : Signed (long s (word s 0 + 24)) (c .stopcost .0)
     pub initial : word s (word s 0 + 28) ≡ c .initial .0
     pub elapsed : word s (word s 0 + 30) ≡ c .elapsed .0
+    pub no-stages : Stageless s → (c .upstage ≡ 0) × (c .downstage ≡ 0)
+    pub upstage : (Stageless s → ⊥) → getD s (word s 0 + 32) 0 ≡ c .upstage
+    pub downstage : (Stageless s → ⊥) → getD s (word s 0 + 33) 0 ≡ c .downstage
     pub rise : (i : ℕ) → i < c .rises → word s (word s 4 + 2 * i) ≡ getD (c .rise) i noOutput .0
     pub fall : (i : ℕ) → i < c .falls → word s (word s 8 + 2 * i) ≡ getD (c .fall) i noOutput .0
     pub old-prices : word s 0 ≡ 16 → (i : ℕ) → i < c .hours
@@ -146,7 +163,7 @@ module _ (s : List ℕ) where
 pub data FileLimited (s : List ℕ) : ℕ → Type 0 where
   file1 : Chained s → FileLimited s 1
   file2 : (c : Case) → Measured s c → Counts c → FileLimited s 2
-  file12 : (word s 0 ≡ 20 → word s (length s - 2) ≡ 2) → FileLimited s 12
+  file12 : (word s 0 ≡ 20 → (word s (length s - 2) ≡ 2) ⊎ (word s (length s - 2) ≡ 3)) → FileLimited s 12
   held : (n : ℕ) (c : Case) → Holds s c → Limited c n → FileLimited s n
 
 -- ---- the numbers of a record
@@ -154,7 +171,7 @@ pub data FileLimited (s : List ℕ) : ℕ → Type 0 where
 abbrev pub unitNumbers : Case → List ℕ
 unitNumbers c =
     c .capacity .0 ∷ c .minimum .0 ∷ c .rampup .0 ∷ c .rampdown .0 ∷ c .minup .0 ∷ c .mindown .0 ∷ c .initial .0
-    ∷ c .elapsed .0 ∷ c .rises ∷ c .falls ∷ c .hours ∷ []
+    ∷ c .elapsed .0 ∷ c .upstage ∷ c .downstage ∷ c .rises ∷ c .falls ∷ c .hours ∷ []
 
 abbrev pub costs : Case → List ℤ
 costs c = c .variable .0 ∷ c .fixed .0 ∷ c .startcost .0 ∷ c .stopcost .0 ∷ []
@@ -174,7 +191,7 @@ pub record Zeroed (c d : Case) : Type 0 where
 
 -- every number of a record is 0
 pub record AllZero (c : Case) : Type 0 where
-  pub unit : unitNumbers c ≡ replicate 11 0
+  pub unit : unitNumbers c ≡ replicate 13 0
   pub costs : costs c ≡ replicate 4 (pos 0)
   pub rise : c .rise ≡ replicate 8 noOutput
   pub fall : c .fall ≡ replicate 8 noOutput

@@ -1,32 +1,65 @@
--- A second view of the rules: each in the source's own form, with its minus signs, or in the words of document 01,
--- "Rules of a list"; the first breach; demand 3's "earns less, or earns the same and is the higher"; and a number in
--- decimal. The promises tie it to Constraints, Rules, Best and Printed; no entry rests on it. Definitions only. Assumes
--- nothing.
+-- A second view of the rules: the marks by the outputs; each rule in the source's own form, with its minus signs, or in
+-- the words of document 01, "Rules of a list", for any marks; the profit by its sums; the first breach; demand 3's
+-- "earns less, or earns the same and is the higher"; and a number in decimal. The promises tie it to Marks, Constraints,
+-- Rules, Profit, Best and Printed; no entry rests on it. Definitions only. Assumes nothing.
 use mathlib.Core.Path.{_≡_}
-use mathlib.Core.Bool.{Bool, _||_}
+use mathlib.Core.Bool.{Bool, _||_, cond}
 use mathlib.Core.List.{List, [], _∷_}
 use Prim.Native.Nat.{ℕ, zero, suc, _+_, _*_, _-_, _≤_, _<_}
-use lib.Dec.{T, eqb}
+use lib.Dec.{T, leb, ltb, eqb}
 use lib.IntN.{ℤ, pos, _+ℤ_, _-ℤ_, _*ℤ_}
 use lib.ListN.{length, getD}
 use lib.Signed.{_≤ℤ_, _<ℤ_}
 use Rattle.model.specs.declared.Case.{Case}
-use Rattle.model.specs.Symbols.{stage, hourly}
-use Rattle.model.specs.Marks.{p, v, y, z}
-use Rattle.model.specs.Constraints.{starting, stopping, startOutput, stopOutput, stopsWithin}
+use Rattle.model.specs.Symbols.{sum, bit, stage, hourly, priced}
+use Rattle.model.specs.Marks.{p, y, yBack, z}
 use Rattle.model.specs.Refusals.{within}
 
+-- ---- marks
 module _ (c : Case) (l : List ℕ) where
-  -- the unit starts in hour k of the day, or stops
+  -- the unit starts in hour k of the day
   pub record Starts (k : ℕ) : Type 0 where
     pub inside : (1 ≤ k) × (k ≤ c .hours)
     pub off-line : p c l (k - 1) ≡ 0
     pub on-line : 1 ≤ p c l k
 
-  pub record Stops (k : ℕ) : Type 0 where
-    pub inside : (1 ≤ k) × (k ≤ c .hours)
-    pub on-line : 1 ≤ p c l (k - 1)
-    pub off-line : p c l k ≡ 0
+  -- no start sequence, which is UD hours from a start on, holds hour T; nor does that in which the day opens
+  pub record Settled : Type 0 where
+    pub started : (s : ℕ) → Starts s → s + c .rises ≤ c .hours
+    pub opened : 1 ≤ c .upstage → c .rises < c .hours + c .upstage
+
+  -- it stops in hour k of the day, or, where the day closes at PD(i), DD + 1 − i hours after it
+  pub data Stops (k : ℕ) : Type 0 where
+    stops-inside : 1 ≤ k → k ≤ c .hours → 1 ≤ p c l (k - 1) → p c l k ≡ 0 → Stops k
+    stops-after : (i : ℕ) → 2 ≤ i → i ≤ c .falls → k + i ≡ c .hours + c .falls + 1 → p c l (c .hours) ≡ stage (c .fall) i
+        → Settled → Stops k
+
+  -- y(k−i+1) is a start in the day, or that in which the day opens: k − i + 1 is 1 − stage
+  pub data StartsBack (k i : ℕ) : Type 0 where
+    starts-inside : (s : ℕ) → s + i ≡ k + 1 → Starts s → StartsBack k i
+    starts-opening : 1 ≤ c .upstage → i ≡ k + c .upstage → StartsBack k i
+
+-- outputs and marks: p(k), y(k), z(k), and y(k−i+1) for i from 1 on
+pub record Marking : Type 0 where
+  pub p : ℕ → ℕ
+  pub y : ℕ → ℕ
+  pub z : ℕ → ℕ
+  pub back : ℕ → ℕ → ℕ
+
+-- those of a list; and with no mark outside hours 1 to T
+abbrev pub markingOf : Case → List ℕ → Marking
+markingOf c l = record { p = p c l; y = y c l; z = z c l; back = yBack c l }
+
+abbrev pub insideOf : Case → List ℕ → Marking
+insideOf c l =
+    record {
+      p = p c l;
+      y = y c l;
+      z = λ k. cond (leb k (c .hours)) (z c l k) 0;
+      back = λ k i. cond (ltb k i) 0 (y c l (k + 1 - i));
+    }
+
+-- ---- rules
 
 -- s is the latest hour before k at which there is such an event
 pub record Latest (event : ℕ → Type 0) (k s : ℕ) : Type 0 where
@@ -54,43 +87,75 @@ unfoldable pub sumℤ : (ℕ → ℤ) → ℕ → ℤ
 sumℤ f zero = pos 0
 sumℤ f (suc n) = sumℤ f n +ℤ f (suc n)
 
--- hour k keeps the rule of this number
-pub data Kept (c : Case) (l : List ℕ) (k : ℕ) : ℕ → Type 0 where
-  kept1 : (scaled (v c l k) (stopping c l k + starting c l k) (c .minimum .0) +ℤ pos (startOutput c l k))
-      ≤ℤ pos (p c l k) → Kept c l k 1
-  kept2 : (scaled (v c l k) (stopping c l k + starting c l k) (c .minimum .0) +ℤ pos (stopOutput c l k))
-      ≤ℤ pos (p c l k) → Kept c l k 2
-  kept3 : pos (p c l k) ≤ℤ (pos (startOutput c l k) +ℤ scaled (v c l k) (starting c l k) (c .capacity .0))
-      → Kept c l k 3
-  kept4 : pos (p c l k) ≤ℤ (pos (stopOutput c l k) +ℤ scaled (v c l k) (stopping c l k) (c .capacity .0))
-      → Kept c l k 4
-  kept5 : (pos (p c l k) -ℤ pos (p c l (k - 1)))
-      ≤ℤ (pos (c .capacity .0 * starting c l k) +ℤ scaled (v c l k) (starting c l k) (c .rampup .0)) → Kept c l k 5
-  kept6 : (pos (p c l (k - 1)) -ℤ pos (p c l k))
-      ≤ℤ (pos (c .capacity .0 * stopsWithin c l (c .falls) k)
-      +ℤ scaled (v c l (k - 1)) (stopsWithin c l (c .falls) k) (c .rampdown .0)) → Kept c l k 6
-  kept7 : pos (y c l k) -ℤ pos (z c l k) ≡ pos (v c l k) -ℤ pos (v c l (k - 1)) → Kept c l k 7
-  kept8 : starting c l k ≤ v c l k → Kept c l k 8
-  kept9 : stopping c l k ≤ v c l k → Kept c l k 9
-  kept10 : y c l k + stopsWithin c l (c .rises + c .falls - 1) k ≤ 1 → Kept c l k 10
-  kept11 : scaled (stopping c l k + starting c l k) 1 (stage (c .rise) (c .rises)) ≤ℤ pos (p c l k) → Kept c l k 11
-  kept12 : scaled (stopping c l k + starting c l k) 1 (stage (c .fall) 1) ≤ℤ pos (p c l k) → Kept c l k 12
-  kept21 : (Stops c l k → Rested (Starts c l) (c .elapsed .0) (c .minup .0) k) → Kept c l k 21
-  kept22 : (Starts c l k → Rested (Stops c l) (c .elapsed .0) (c .mindown .0) k) → Kept c l k 22
-  kept23 : Ordered c k (p c l k) → Kept c l k 23
+-- the sums of the constraints, with v(k)
+module _ (c : Case) (m : Marking) where
+  abbrev pub online : ℕ → ℕ
+  online k = bit (ltb 0 (m .p k))
 
--- the rules that an hour is held to: (2) and (4) at hour 0, all of them from hour 1 on
-abbrev pub tested : ℕ → ℕ → Bool
-tested zero n = eqb n 2 || eqb n 4
-tested (suc k) n = within 1 12 n || within 21 23 n
+  -- start-ups and shut-downs that hour k lies in, with what they prescribe; stops in n hours from hour k
+  abbrev pub ups : ℕ → ℕ
+  ups k = sum (λ i. m .back k i) (c .rises)
+
+  abbrev pub downs : ℕ → ℕ
+  downs k = sum (λ i. m .z (k + i)) (c .falls)
+
+  abbrev pub upOutput : ℕ → ℕ
+  upOutput k = sum (λ i. stage (c .rise) i * m .back k i) (c .rises)
+
+  abbrev pub downOutput : ℕ → ℕ
+  downOutput k = sum (λ i. stage (c .fall) i * m .z (k + c .falls + 1 - i)) (c .falls)
+
+  abbrev pub stops : ℕ → ℕ → ℕ
+  stops n k = sum (λ i. m .z (k + i - 1)) n
+
+-- hour k keeps the rule of this number
+pub data Kept (c : Case) (m : Marking) (k : ℕ) : ℕ → Type 0 where
+  kept1 : (scaled (online c m k) (downs c m k + ups c m k) (c .minimum .0) +ℤ pos (upOutput c m k)) ≤ℤ pos (m .p k)
+      → Kept c m k 1
+  kept2 : (scaled (online c m k) (downs c m k + ups c m k) (c .minimum .0) +ℤ pos (downOutput c m k)) ≤ℤ pos (m .p k)
+      → Kept c m k 2
+  kept3 : pos (m .p k) ≤ℤ (pos (upOutput c m k) +ℤ scaled (online c m k) (ups c m k) (c .capacity .0)) → Kept c m k 3
+  kept4 : pos (m .p k) ≤ℤ (pos (downOutput c m k) +ℤ scaled (online c m k) (downs c m k) (c .capacity .0))
+      → Kept c m k 4
+  kept5 : (pos (m .p k) -ℤ pos (m .p (k - 1)))
+      ≤ℤ (pos (c .capacity .0 * ups c m k) +ℤ scaled (online c m k) (ups c m k) (c .rampup .0)) → Kept c m k 5
+  kept6 : (pos (m .p (k - 1)) -ℤ pos (m .p k))
+      ≤ℤ (pos (c .capacity .0 * stops c m (c .falls) k)
+      +ℤ scaled (online c m (k - 1)) (stops c m (c .falls) k) (c .rampdown .0)) → Kept c m k 6
+  kept7 : pos (m .y k) -ℤ pos (m .z k) ≡ pos (online c m k) -ℤ pos (online c m (k - 1)) → Kept c m k 7
+  kept8 : ups c m k ≤ online c m k → Kept c m k 8
+  kept9 : downs c m k ≤ online c m k → Kept c m k 9
+  kept10 : m .y k + stops c m (c .rises + c .falls - 1) k ≤ 1 → Kept c m k 10
+  kept11 : scaled (downs c m k + ups c m k) 1 (stage (c .rise) (c .rises)) ≤ℤ pos (m .p k) → Kept c m k 11
+  kept12 : scaled (downs c m k + ups c m k) 1 (stage (c .fall) 1) ≤ℤ pos (m .p k) → Kept c m k 12
+  kept21 : (m .z k ≡ 1 → Rested (λ s. m .y s ≡ 1) (c .elapsed .0) (c .minup .0) k) → Kept c m k 21
+  kept22 : (m .y k ≡ 1 → Rested (λ s. m .z s ≡ 1) (c .elapsed .0) (c .mindown .0) k) → Kept c m k 22
+  kept23 : Ordered c k (m .p k) → Kept c m k 23
+
+-- the rules that an hour is held to: (2) and (4) at hour 0, all of them from hour 1 to T, 21 above it
+abbrev pub tested : Case → ℕ → ℕ → Bool
+tested c zero n = eqb n 2 || eqb n 4
+tested c (suc k) n = cond (ltb k (c .hours)) (within 1 12 n || within 21 23 n) (eqb n 21)
+
+-- every hour keeps every rule that it is held to; the last that a stop after T can stand in is T + DD − 1
+abbrev pub KeepsAll : Case → Marking → Type 0
+KeepsAll c m = (k n : ℕ) → k < c .hours + c .falls → T (tested c k n) → Kept c m k n
+
+-- the profit by its sums over hours 1 to T, in half-mills
+abbrev pub earned : Case → Marking → ℤ
+earned c m =
+    sumℤ (λ k. priced (c .prices) k *ℤ pos (m .p k + m .p (k - 1))) (c .hours)
+    -ℤ (c .variable .0 *ℤ pos (sum (λ k. m .p k + m .p (k - 1)) (c .hours))
+    +ℤ (c .fixed .0 *ℤ pos (2 * sum (online c m) (c .hours))
+    +ℤ (c .startcost .0 *ℤ pos (2 * sum (m .y) (c .hours)) +ℤ c .stopcost .0 *ℤ pos (2 * sum (m .z) (c .hours)))))
 
 -- the first breach is that of rule n at hour k: no rule is broken earlier, none of a lower number then, and that one is
-pub record Breaks (c : Case) (l : List ℕ) (k n : ℕ) : Type 0 where
-  pub inside : k ≤ c .hours
-  pub held : T (tested k n)
-  pub broken : Kept c l k n → ⊥
-  pub lower : (m : ℕ) → m < n → T (tested k m) → Kept c l k m
-  pub earlier : (i m : ℕ) → i < k → T (tested i m) → Kept c l i m
+pub record Breaks (c : Case) (m : Marking) (k n : ℕ) : Type 0 where
+  pub inside : k < c .hours + c .falls
+  pub held : T (tested c k n)
+  pub broken : Kept c m k n → ⊥
+  pub lower : (i : ℕ) → i < n → T (tested c k i) → Kept c m k i
+  pub earlier : (i j : ℕ) → i < k → T (tested c i j) → Kept c m i j
 
 -- m earns less than l, or earns the same and is the higher at the first hour where the two differ
 pub data Beaten (earns : List ℕ → ℤ) (l m : List ℕ) : Type 0 where

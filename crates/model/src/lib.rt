@@ -45,11 +45,13 @@ pub const WORK: usize = 8192;
 // Bytes of an input that the program reads as a case, at the most.
 pub const INPUT: usize = 4096;
 
-// Bytes of a case file (specs/Forms): a pair of offset and length, the unit section, an output of a trajectory, an hour
-// of the old form and of the newest, the form section.
+// Bytes of a case file (specs/Forms): a pair of offset and length, the unit section without stages and of the newest
+// form, an output of a trajectory, an hour of the old form and of the newest, the form section.
 pub const PAIR_BYTES: usize = 4;
 
-pub const UNIT_BYTES: usize = 32;
+pub const OLD_UNIT_BYTES: usize = 32;
+
+pub const UNIT_BYTES: usize = 34;
 
 pub const STAGE_BYTES: usize = 2;
 
@@ -59,12 +61,14 @@ pub const HOUR_BYTES: usize = 5;
 
 pub const FORM_BYTES: usize = 2;
 
-// Sections of the old form, and of the forms that have a number; that of the newest.
+// Sections of the old form, and of the forms that hold their number; form 2, and the number of the newest.
 pub const OLD_SECTIONS: usize = 4;
 
 pub const SECTIONS: usize = 5;
 
-pub const FORM: u16 = 2;
+pub const FORM_TWO: u16 = 2;
+
+pub const FORM: u16 = 3;
 
 // How many 16-bit numbers there are; how many 32-bit numbers with a sign are not below 0.
 pub const WORDS: u32 = 65536;
@@ -166,6 +170,9 @@ pub struct Case {
     // p(0), and h: the hours that the unit has been on-line or off-line before hour 1
     pub initial: Output,
     pub elapsed: Hour,
+    // the stage of a start-up, or of a shut-down, that p(0) has reached; 0 where it is in none
+    pub upstage: u8,
+    pub downstage: u8,
     // PU and PD
     pub rise: [Output; STAGES],
     pub fall: [Output; STAGES],

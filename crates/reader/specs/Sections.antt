@@ -38,7 +38,7 @@ dayOf f part =
       count = length part / entryLength f 3;
     }
 
--- the unit, with two trajectories and a day
+-- the unit, with two trajectories and a day; a stage that the unit lacks is 0
 unfoldable pub assembled : List ℕ → Trajectory → Trajectory → Day → Case
 assembled unit rise fall day =
     record {
@@ -54,6 +54,8 @@ assembled unit rise fall day =
       stopcost = record { 0 = signed (numberAt unit 24 4) };
       initial = record { 0 = numberAt unit 28 2 };
       elapsed = record { 0 = numberAt unit 30 2 };
+      upstage = getD unit 32 0;
+      downstage = getD unit 33 0;
       rise = rise .outputs;
       fall = fall .outputs;
       prices = day .prices;

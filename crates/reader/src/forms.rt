@@ -9,15 +9,17 @@ use model::HOUR_BYTES;
 use model::HOURS;
 use model::OLD_HOUR_BYTES;
 use model::OLD_SECTIONS;
+use model::OLD_UNIT_BYTES;
 use model::SECTIONS;
 use model::STAGE_BYTES;
 use model::STAGES;
 use model::UNIT_BYTES;
 
-// The old form, and form 2.
+// The old form, form 2 and form 3.
 pub enum Form {
     Old,
     Two,
+    Three,
 }
 
 impl Form {
@@ -28,6 +30,18 @@ impl Form {
         match self {
             Form::Old => OLD_SECTIONS,
             Form::Two => SECTIONS,
+            Form::Three => SECTIONS,
+        }
+    }
+
+    // The bytes of the unit.
+    pub(crate) fn unit(self) -> usize
+        ensures { λ r. ⌜ r ≡ entryLength (tableOf self) 0 ⌝ }
+    {
+        match self {
+            Form::Old => OLD_UNIT_BYTES,
+            Form::Two => OLD_UNIT_BYTES,
+            Form::Three => UNIT_BYTES,
         }
     }
 
@@ -38,6 +52,7 @@ impl Form {
         match self {
             Form::Old => OLD_HOUR_BYTES,
             Form::Two => HOUR_BYTES,
+            Form::Three => HOUR_BYTES,
         }
     }
 }
@@ -48,7 +63,7 @@ pub(crate) fn entry_bytes(form: Form, i: usize) -> usize
     ensures { λ r. ⌜ r ≡ entryLength (tableOf form) i ⌝ }
 {
     if i == 0 {
-        return UNIT_BYTES;
+        return form.unit();
     }
     if i < 3 {
         return STAGE_BYTES;

@@ -2,7 +2,7 @@
 // bits.
 ghost use mathlib.Core.Path.{_≡_};
 ghost use Prim.Native.Nat.{_+_, _≤_, _<_};
-ghost use lib.ListN.{length};
+ghost use lib.ListN.{length, getD};
 ghost use Rattle.model.specs.Layout.{numberAt, signed};
 use model::HALF_LONGS;
 use model::Mills;
@@ -18,12 +18,29 @@ fn wide(x: u8) -> u16
     x as u16
 }
 
+// The byte at an offset; 0 past the end.
+pub(crate) fn byte(part: &[u8], at: usize) -> u8
+    ensures { λ r. ⌜ r ≡ getD (now (part .entry)) at 0 ⌝ }
+{
+    if at < part.len() {
+        return part[at];
+    }
+    0
+}
+
 // The 16-bit number at an offset.
 pub(crate) fn word(part: &[u8], at: usize) -> u16
     requires { ⌜ at + 2 ≤ length (now part) ⌝ }
     ensures { λ r. ⌜ r ≡ numberAt (now (part .entry)) at 2 ⌝ }
 {
     wide(part[at]) + wide(part[at + 1]) * 256
+}
+
+// The 16-bit number at the front of a part; a byte that the part lacks is 0.
+pub(crate) fn front(part: &[u8]) -> u16
+    ensures { λ r. ⌜ r ≡ numberAt (now (part .entry)) 0 2 ⌝ }
+{
+    wide(byte(part, 0)) + wide(byte(part, 1)) * 256
 }
 
 // The 32-bit number at an offset.

@@ -1,6 +1,6 @@
-// The pairs of a case file, offset and length, the form that its first offset names, and refusals 1, 2 and 12 of a file
-// (model's specs/Layout, Refusals). Offsets and lengths are 16 bits wide in the file and reckoned with as usize, so
-// that no sum wraps.
+// The pairs of a case file, offset and length, the form that its first offset and its form number name, and refusals 1,
+// 2 and 12 of a file (model's specs/Layout, Refusals). Offsets and lengths are 16 bits wide in the file and reckoned
+// with as usize, so that no sum wraps.
 ghost use mathlib.Core.Path.{_≡_};
 ghost use mathlib.Core.Bool.{false};
 ghost use Prim.Native.Nat.{_+_, _*_, _-_, _≤_, _<_};
@@ -14,10 +14,13 @@ ghost use Rattle.reader.specs.Tables.{tableOf};
 use crate::forms::Form;
 use crate::forms::entry_bytes;
 use crate::forms::most_entries;
+use crate::numbers::front;
 use crate::numbers::word;
 use model::FORM;
+use model::FORM_TWO;
 use model::OLD_SECTIONS;
 use model::PAIR_BYTES;
+use model::SECTIONS;
 
 // The offset in pair i of a file.
 pub(crate) fn offset_at(file: &[u8], i: usize) -> usize
@@ -53,15 +56,15 @@ pub(crate) fn section(file: &[u8], i: usize) -> &[u8]
     &file[from..to]
 }
 
-// The form of a file, by its first offset.
-pub fn form_of(file: &[u8]) -> Form
+// How many sections a file has, by its first offset.
+fn sections_of(file: &[u8]) -> usize
     requires { ⌜ 4 ≤ length (now file) ⌝ }
-    ensures { λ r. ⌜ tableOf r ≡ formOf (now (file .entry)) ⌝ }
+    ensures { λ r. ⌜ r ≡ length (formOf (now (file .entry))) ⌝ }
 {
     if offset_at(file, 0) == PAIR_BYTES * OLD_SECTIONS {
-        return Form::Old;
+        return OLD_SECTIONS;
     }
-    Form::Two
+    SECTIONS
 }
 
 // Whether each of n sections but the first begins where the one before ends.
@@ -86,14 +89,36 @@ pub fn refusal1(file: &[u8]) -> bool
     if file.len() < PAIR_BYTES * OLD_SECTIONS {
         return true;
     }
-    let form = form_of(file);
-    let sections = form.sections();
+    let sections = sections_of(file);
     if file.len() < PAIR_BYTES * sections {
         return true;
     }
     let n = file.len();
     let rest = linked(file, sections) & (end_at(file, sections - 1) == n);
     !((offset_at(file, 0) == PAIR_BYTES * sections) & rest)
+}
+
+// The number in the form section of a file with five sections.
+fn form_number(file: &[u8]) -> u16
+    requires { ⌜ refusal1 (now file) ≡ false ⌝ }
+    requires { ⌜ length (formOf (now file)) ≡ 5 ⌝ }
+    ensures { λ r. ⌜ r ≡ formNumberAt (now (file .entry)) ⌝ }
+{
+    front(section(file, 4))
+}
+
+// The form of a file, by its first offset and its form number.
+pub fn form_of(file: &[u8]) -> Form
+    requires { ⌜ refusal1 (now file) ≡ false ⌝ }
+    ensures { λ r. ⌜ tableOf r ≡ formOf (now (file .entry)) ⌝ }
+{
+    if sections_of(file) == OLD_SECTIONS {
+        return Form::Old;
+    }
+    if form_number(file) == FORM_TWO {
+        return Form::Two;
+    }
+    Form::Three
 }
 
 // Whether a section of so many bytes is 1 to `most` entries of `width` bytes; the entries of a longer one are not
@@ -122,25 +147,14 @@ pub fn refusal2_file(file: &[u8]) -> bool
     !so
 }
 
-// The number in the form section of a file with five whole sections.
-fn form_number(file: &[u8]) -> u16
-    requires { ⌜ refusal1 (now file) ≡ false ⌝ }
-    requires { ⌜ refusal2File (now file) ≡ false ⌝ }
-    requires { ⌜ tableOf Form.Two ≡ formOf (now file) ⌝ }
-    ensures { λ r. ⌜ r ≡ formNumberAt (now (file .entry)) ⌝ }
-{
-    word(section(file, 4), 0)
-}
-
 // A form number that no form has.
 pub fn refusal12(file: &[u8]) -> bool
     requires { ⌜ refusal1 (now file) ≡ false ⌝ }
-    requires { ⌜ refusal2File (now file) ≡ false ⌝ }
     ensures { λ r. ⌜ r ≡ refusal12 (now (file .entry)) ⌝ }
 {
-    let form = form_of(file);
-    match form {
-        Form::Old => false,
-        Form::Two => form_number(file) != FORM,
+    if sections_of(file) == OLD_SECTIONS {
+        return false;
     }
+    let number = form_number(file);
+    (number != FORM) & (number != FORM_TWO)
 }

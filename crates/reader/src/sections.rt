@@ -13,6 +13,7 @@ ghost use Rattle.model.specs.Refusals.{refusal1, refusal2File};
 ghost use Rattle.reader.specs.Sections.{trajectoryOf, dayOf, assembled};
 ghost use Rattle.reader.specs.Tables.{tableOf};
 use crate::forms::Form;
+use crate::numbers::byte;
 use crate::numbers::mills;
 use crate::numbers::short_mills;
 use crate::numbers::word;
@@ -62,6 +63,7 @@ fn price_at(part: &[u8], at: usize, form: Form) -> Mills
     match form {
         Form::Old => short_mills(part, at),
         Form::Two => mills(part, at),
+        Form::Three => mills(part, at),
     }
 }
 
@@ -98,9 +100,9 @@ fn read_day(part: &[u8], form: Form) -> Day
     }
 }
 
-// The unit section, with what the other sections hold.
+// The unit section, with what the other sections hold; a stage that it lacks is 0.
 fn read_unit(part: &[u8], rise: Trajectory, fall: Trajectory, day: Day) -> Case
-    requires { ⌜ length (now part) ≡ width unitWidths ⌝ }
+    requires { ⌜ width unitWidths ≤ length (now part) ⌝ }
     ensures { λ r. ⌜ r ≡ assembled (now (part .entry)) rise fall day ⌝ }
 {
     let rises = rise.outputs;
@@ -120,6 +122,8 @@ fn read_unit(part: &[u8], rise: Trajectory, fall: Trajectory, day: Day) -> Case
         stopcost: mills(part, 24),
         initial: Output(word(part, 28)),
         elapsed: Hour(word(part, 30)),
+        upstage: byte(part, 32),
+        downstage: byte(part, 33),
         rise: rises,
         fall: falls,
         prices: prices,

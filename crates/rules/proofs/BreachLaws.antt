@@ -9,10 +9,11 @@ use lib.Dec.{eqb}
 use borrow.Author.Tests.{ne-eqb}
 use Rattle.model.specs.declared.Case.{Case}
 use Rattle.model.specs.declared.Breach.{Breach}
+use Rattle.model.specs.Marks.{y}
 use Rattle.model.specs.Rules.{brokenAt, breachFrom, breach}
 use Rattle.model.proofs.CheckLaws.{breach-is, breachFrom-none, breachFrom-kept, breachFrom-broken}
 use Rattle.broken.specs.declared.times.Since.{Since}
-use Rattle.broken.specs.Elapsed.{Elapsed}
+use Rattle.broken.specs.Elapsed.{Held, Elapsed}
 use Rattle.rules.specs.Found.{found}
 
 pub found-none : (b : Breach) → b .rule ≡ 0 → found b ≡ none
@@ -27,53 +28,66 @@ found-some b n = ap (λ t. cond t none (some b)) (ne-eqb (b .rule) 0 n)
 abbrev at : ℕ → ℕ → Breach
 at k r = record { hour = record { 0 = k }; rule = r }
 
+-- hours from 1 on that are looked at: those of the day, and those in which a stop after it may stand
+abbrev pub reach : Case → ℕ
+reach c = c .hours + c .falls - 1
+
 module _ (c : Case) (l : List ℕ) where
   pub broken-here : (k n r : ℕ) → r ≡ brokenAt c l k → (r ≡ 0 → ⊥) → breachFrom c l k (n + 1) ≡ found (at k r)
   broken-here k n r e m =
       breachFrom-broken c l k n (λ z. m (e ∙ z)) ∙ ap (λ x. some (at k x)) (sym e) ∙ sym (found-some (at k r) m)
 
   -- hour 0, and then the hours from 1 on
-  pub broken-edge : (r : ℕ) → r ≡ brokenAt c l 0 → (r ≡ 0 → ⊥) → breach c l ≡ found (at 0 r)
-  broken-edge r e m = breach-is c l ∙ broken-here 0 (c .hours) r e m
+  module _ (some : 1 ≤ c .falls) where
+    hours-from : breach c l ≡ breachFrom c l 0 (reach c + 1)
+    hours-from = breach-is c l ∙ ap (breachFrom c l 0) (omega arith)
 
-  pub kept-edge : brokenAt c l 0 ≡ 0 → breach c l ≡ breachFrom c l 1 (c .hours)
-  kept-edge e = breach-is c l ∙ breachFrom-kept c l 0 (c .hours) e
+    pub broken-edge : (r : ℕ) → r ≡ brokenAt c l 0 → (r ≡ 0 → ⊥) → breach c l ≡ found (at 0 r)
+    broken-edge r e m = hours-from ∙ broken-here 0 (reach c) r e m
 
--- no hour from 1 to k − 1 breaks a rule
-pub record Kept (c : Case) (l : List ℕ) (k : ℕ) (s : Since) : Type 0 where
-  pub some : 0 < k
-  pub part : k ≤ c .hours + 1
-  pub onward : breachFrom c l 1 (c .hours) ≡ breachFrom c l k (c .hours + 1 - k)
-  pub elapsed : Elapsed c l k s
+    pub kept-edge : brokenAt c l 0 ≡ 0 → breach c l ≡ breachFrom c l 1 (reach c)
+    kept-edge e = hours-from ∙ breachFrom-kept c l 0 (reach c) e
 
-module _ {c : Case} {l : List ℕ} where
-  pub kept-start : {s : Since} → Elapsed c l 1 s → Kept c l 1 s
-  kept-start e =
-      record {
-        some = omega arith;
-        part = omega arith;
-        onward = ap (breachFrom c l 1) (omega arith);
-        elapsed = e;
-      }
+-- n hours from hour a on are looked at; none up to hour k − 1 breaks a rule
+pub record Onward (c : Case) (l : List ℕ) (a n k : ℕ) : Type 0 where
+  pub from : a ≤ k
+  pub part : k ≤ a + n
+  pub onward : breachFrom c l a n ≡ breachFrom c l k (a + n - k)
 
-  module _ {k : ℕ} {s : Since} (h : Kept c l k s) where
-    next : k ≤ c .hours → breachFrom c l 1 (c .hours) ≡ breachFrom c l k (c .hours - k + 1)
+module _ {c : Case} {l : List ℕ} {a n : ℕ} where
+  pub onward-start : Onward c l a n a
+  onward-start =
+      record { from = omega arith; part = omega arith; onward = ap (breachFrom c l a) (omega arith) }
+
+  module _ {k : ℕ} (h : Onward c l a n k) where
+    next : k < a + n → breachFrom c l a n ≡ breachFrom c l k (a + n - k - 1 + 1)
     next m = h .onward ∙ ap (breachFrom c l k) (omega arith)
 
-    pub kept-step : (t : Since) → k ≤ c .hours → brokenAt c l k ≡ 0 → Elapsed c l (k + 1) t → Kept c l (k + 1) t
-    kept-step t m e f =
+    pub onward-step : k < a + n → brokenAt c l k ≡ 0 → Onward c l a n (k + 1)
+    onward-step m e =
         record {
-          some = omega arith;
+          from = omega (arith, h .from);
           part = omega arith;
-          onward = next m ∙ breachFrom-kept c l k (c .hours - k) e ∙ ap (breachFrom c l (k + 1)) (omega arith);
-          elapsed = f;
+          onward = next m ∙ breachFrom-kept c l k (a + n - k - 1) e ∙ ap (breachFrom c l (k + 1)) (omega arith);
         }
 
-    pub kept-broken : (r : ℕ) → k ≤ c .hours → r ≡ brokenAt c l k → (r ≡ 0 → ⊥)
-        → breachFrom c l 1 (c .hours) ≡ found (at k r)
-    kept-broken r m e n = next m ∙ broken-here c l k (c .hours - k) r e n
+    pub onward-broken : (r : ℕ) → k < a + n → r ≡ brokenAt c l k → (r ≡ 0 → ⊥) → breachFrom c l a n ≡ found (at k r)
+    onward-broken r m e f = next m ∙ broken-here c l k (a + n - k - 1) r e f
 
-    pub kept-end : c .hours < k → breachFrom c l 1 (c .hours) ≡ found (at 0 0)
-    kept-end m =
-        h .onward ∙ ap (breachFrom c l k) (let e : c .hours + 1 - k ≡ 0 = omega arith in e)
+    pub onward-end : a + n ≤ k → breachFrom c l a n ≡ found (at 0 0)
+    onward-end m =
+        h .onward ∙ ap (breachFrom c l k) (let e : a + n - k ≡ 0 = omega arith in e)
         ∙ breachFrom-none c l k ∙ sym (found-none (at 0 0) refl)
+
+-- the hours of the day up to hour k − 1 break no rule, with the hours since the latest start and stop
+pub record Kept (c : Case) (l : List ℕ) (k : ℕ) (s : Since) : Type 0 where
+  pub some : 0 < k
+  pub inside : k ≤ c .hours + 1
+  pub hours : Onward c l 1 (reach c) k
+  pub elapsed : Elapsed c l k s
+
+-- those after it up to hour k − 1 break none either, with the hours since the latest start
+pub record KeptLate (c : Case) (l : List ℕ) (k since : ℕ) : Type 0 where
+  pub past : c .hours < k
+  pub hours : Onward c l (c .hours + 1) (c .falls - 1) k
+  pub held : Held c (y c l) k since

@@ -1,2 +1,3 @@
 -- What the contracts inside the check speak of.
 pub mod Found
+pub mod Late

@@ -8,7 +8,7 @@ ghost use Prim.Native.Nat.{_+_, _*_, _≤_, _<_};
 ghost use lib.ListN.{length, getD};
 ghost use lib.Seq.{sets};
 ghost use Rattle.model.specs.Limits.{mostStages, words};
-ghost use Rattle.model.specs.Forms.{newest, pairsLength};
+ghost use Rattle.model.specs.Forms.{stagedWidths, newest, width, pairsLength};
 ghost use Rattle.model.specs.Layout.{bytes, joined, noOutput, unsigned, fieldBytes, sectionBytes, pairBytes, bytesOf};
 ghost use Rattle.model.specs.Refusals.{refusalOf};
 use crate::numbers::put_mills;
@@ -29,6 +29,15 @@ use model::UNIT_BYTES;
 const PAIRS_BYTES: usize = PAIR_BYTES * SECTIONS;
 
 const FRONT_BYTES: usize = PAIRS_BYTES + UNIT_BYTES;
+
+// Writes two bytes.
+fn put_bytes(out: &mut [u8], at: usize, a: u8, b: u8)
+    requires { ⌜ at + 2 ≤ length (now out) ⌝ }
+    ensures { λ _. ⌜ now (out .exit) ≡ sets (now (out .entry)) at (bytes 1 a ++ bytes 1 b) ⌝ }
+{
+    out[at] = a;
+    out[at + 1] = b;
+}
 
 // Writes two 16-bit numbers.
 fn put_pair(out: &mut [u8], at: usize, a: u16, b: u16)
@@ -62,7 +71,7 @@ fn put_place(out: &mut [u8], i: usize, offset: usize, size: usize)
 fn put_pairs(case: Case, out: &mut [u8])
     requires { ⌜ refusalOf case ≡ 0 ⌝ }
     requires { ⌜ pairsLength (newest .1) ≤ length (now out) ⌝ }
-    ensures { λ _. ⌜ now (out .exit) ≡ sets (now (out .entry)) 0 (pairBytes case (newest .1)) ⌝ }
+    ensures { λ _. ⌜ now (out .exit) ≡ sets (now (out .entry)) 0 (pairBytes case newest) ⌝ }
 {
     let rises = STAGE_BYTES * case.rises;
     let falls = STAGE_BYTES * case.falls;
@@ -79,9 +88,9 @@ fn put_pairs(case: Case, out: &mut [u8])
 
 // Writes the unit section.
 fn put_unit(case: Case, out: &mut [u8])
-    requires { ⌜ pairsLength (newest .1) + 32 ≤ length (now out) ⌝ }
+    requires { ⌜ pairsLength (newest .1) + width stagedWidths ≤ length (now out) ⌝ }
     ensures { λ _. ⌜ now (out .exit)
-        ≡ sets (now (out .entry)) (pairsLength (newest .1)) (sectionBytes case (newest .1) 0) ⌝ }
+        ≡ sets (now (out .entry)) (pairsLength (newest .1)) (sectionBytes case newest 0) ⌝ }
 {
     put_pair(out, PAIRS_BYTES, case.capacity.0, case.minimum.0);
     put_pair(out, PAIRS_BYTES + 4, case.rampup.0, case.rampdown.0);
@@ -89,6 +98,7 @@ fn put_unit(case: Case, out: &mut [u8])
     put_costs(out, PAIRS_BYTES + 12, case.variable, case.fixed);
     put_costs(out, PAIRS_BYTES + 20, case.startcost, case.stopcost);
     put_pair(out, PAIRS_BYTES + 28, case.initial.0, case.elapsed.0);
+    put_bytes(out, PAIRS_BYTES + 32, case.upstage, case.downstage);
 }
 
 // Writes the first n outputs of a trajectory.
@@ -119,7 +129,7 @@ fn put_hour(out: &mut [u8], at: usize, price: Mills, order: u8)
 fn put_hours(case: Case, out: &mut [u8], at: usize)
     requires { ⌜ refusalOf case ≡ 0 ⌝ }
     requires { ⌜ at + 5 * case .hours ≤ length (now out) ⌝ }
-    ensures { λ _. ⌜ now (out .exit) ≡ sets (now (out .entry)) at (sectionBytes case (newest .1) 3) ⌝ }
+    ensures { λ _. ⌜ now (out .exit) ≡ sets (now (out .entry)) at (sectionBytes case newest 3) ⌝ }
 {
     let prices = case.prices;
     let orders = case.orders;

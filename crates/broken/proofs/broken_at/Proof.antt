@@ -2,7 +2,7 @@
 use borrow.Author.Needs.{needs}
 use mathlib.Core.Path.{_∙_, sym, ap}
 use Rattle.model.specs.Rules.{brokenOf}
-use Rattle.model.proofs.CheckLaws.{brokenAt-later, rulesAt-later}
+use Rattle.model.proofs.CheckLaws.{brokenAt-inside, dayRules-are}
 use Rattle.broken.specs.Groups.{ramp, commitment, overlap, terms}
 use Rattle.broken.proofs.broken_at.Statement.{statement}
 use Rattle.broken.proofs.broken_at.Tie as tie
@@ -29,14 +29,14 @@ returns c =
     let overlaps = committed .before in
     let termed = overlaps .before in
     let case = termed .before .args .case in
-    λ l k some h e o.
+    λ l k some inside h e o.
     let last = overlap case l (terms case l) in
     let middle = commitment case l last in
     c .broken-limit .ensures l k (ramp case l middle) h
     (ramps .broken-ramp .ensures l k middle h
     (committed .broken-commitment .ensures case l k last h
     (overlaps .broken-overlap .ensures l k (terms case l) h (termed .broken-terms .ensures l k h e o))))
-    ∙ ap (brokenOf k) (sym (rulesAt-later case l)) ∙ sym (brokenAt-later case l k some)
+    ∙ ap (brokenOf k) (sym (dayRules-are case l)) ∙ sym (brokenAt-inside case l k some inside)
 
 pub broken-at-spec : {M : Type 1} → statement M
 broken-at-spec =

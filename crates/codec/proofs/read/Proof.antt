@@ -62,7 +62,7 @@ returns-2 c =
     c .reading-of2 .ensures ∙ readOf-two (file1 earlier) (off1 earlier) on2 (c .before .blank2 .result)
 
 refusal12-requires : tie.Need-refusal12-requires
-refusal12-requires c κs = (off1 (c .before .before), off2 c)
+refusal12-requires c κs = off1 (c .before .before)
 
 blank-requires-3 : tie.Need-blank-requires-3
 blank-requires-3 c κs = tt

@@ -3,10 +3,10 @@ use borrow.Author.Needs.{needs}
 use native.Mathlib.Omega.{arith}
 use mathlib.Core.Path.{_≡_, _∙_, sym, ap}
 use Prim.Native.Nat.{_+_, _-_}
-use Rattle.model.specs.Marks.{p, y, z}
+use Rattle.model.specs.Marks.{p, z}
 use Rattle.model.proofs.LimitsLaws.{Limits, limits-of-refusalOf}
 use Rattle.model.proofs.CheckLaws.{before-is}
-use Rattle.hours.specs.Counted.{counted}
+use Rattle.hours.specs.Counted.{counted, startOf}
 use Rattle.hours.proofs.StagedLaws.{staged-rise, staged-fall}
 use Rattle.hours.proofs.MarkLaws.{marks-at}
 use Rattle.hours.proofs.NumbersLaws.{megawatts, numbers-of, stops-are, startup-is, shutdown-is}
@@ -53,11 +53,14 @@ output-at-requires-2 c κs = search needs
 marks-of-requires : tie.Need-marks-of-requires
 marks-of-requires c κs = search needs
 
+add-t18-3 : tie.Need-add-t18-3
+add-t18-3 c = let s = start c in omega (arith, limits s .hours-le, s .pre .1 .0)
+
 sequence-at-requires : tie.Need-sequence-at-requires
 sequence-at-requires c κs =
     let s = start c in
     let h = limits s in
-    (staged-rise h, (omega (arith, h .hours-le), (y (s .args .case) (s .args .list .now), s .pre .1 .1 .starts)))
+    (staged-rise h, (omega (arith, h .hours-le), (startOf (s .args .case) (s .args .list .now), s .pre .1 .1 .starts)))
 
 sequence-at-requires-2 : tie.Need-sequence-at-requires-2
 sequence-at-requires-2 c κs =
@@ -101,7 +104,8 @@ returns c =
     let output = ap megawatts at-k in
     let earlier = ap megawatts (before-k ∙ ap (p case l) (sym (before-is k))) in
     let marked = marks-at case l k hour before-k at-k (marks .marks-of .ensures) in
-    let startup = up .sequence-at .ensures (y case l) (counts .starts) ∙ startup-is case l k in
+    let startup = up .sequence-at .ensures (startOf case l) (counts .starts)
+    ∙ startup-is case l (limits s .rises-le) k in
     let shutdown = shut .sequence-at2 .ensures (z case l) (counts .stops) ∙ shutdown-is case l k in
     let falling = c .before .between .ensures (z case l) (counts .stops) ∙ stops-are case l k (case .falls) in
     let meeting = c .between2 .ensures (z case l) (counts .stops)
@@ -122,6 +126,7 @@ numbers-at-spec =
     less-requires
     output-at-requires-2
     marks-of-requires
+    add-t18-3
     sequence-at-requires
     sequence-at-requires-2
     between-requires

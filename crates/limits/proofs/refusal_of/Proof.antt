@@ -34,7 +34,7 @@ refusal6-requires : tie.Need-refusal6-requires
 refusal6-requires c κs = off2 (c .before .before .before)
 
 refusal7-requires : tie.Need-refusal7-requires
-refusal7-requires c κs = tt
+refusal7-requires c κs = off2 (c .before .before .before .before)
 
 refusal8-requires : tie.Need-refusal8-requires
 refusal8-requires c κs =

@@ -4,17 +4,19 @@ use mathlib.Core.Bool.{Bool, true, false, cond}
 use Prim.Native.Nat.{ℕ, suc, _+_, _-_, _≤_, _<_, min}
 use native.Mathlib.Decide.{decLt}
 use native.Mathlib.Omega.{arith}
-use borrow.Author.Tests.{eqb-false}
+use borrow.Author.Tests.{eqb-true, eqb-false}
 use lib.Dec.{eqb}
 use lib.IntN.{ℤ, pos, natAbs, _*ℤ_}
 use lib.ListN.{getD}
 use Rattle.laws.proofs.Magnitude.{abs--, abs-*}
 use Rattle.model.specs.declared.Case.{Case}
 use Rattle.model.specs.Limits.{mostCharge}
-use Rattle.model.specs.Symbols.{high, low, UD, DD, F, last, price, p0, h}
+use Rattle.model.specs.Symbols.{high, low, UD, DD, F, last, price, p0, h, upStage, downStage}
 use Rattle.model.specs.Refusals.{refusalOf}
 use Rattle.model.proofs.LimitsLaws.{Amount, Limits, limits-of-refusalOf}
 use Rattle.machine.specs.Bounds.{mostMargin, mostFee}
+use Rattle.model.proofs.OpeningLaws.{in-start, in-stop, in-none}
+use Rattle.machine.specs.declared.State.the-variants.{Rise, Fall}
 use Rattle.machine.specs.Moves.{idle, running, puAt, pdAt}
 use Rattle.machine.specs.Cases.{unitOf, marginsOf, chargesOf, termsOf, openingOf}
 use Rattle.machine.specs.Fit.{Fit, Fair}
@@ -98,15 +100,26 @@ module _ (c : Case) (lim : Limits c) where
 
   proper : Proper (unitOf c) (openingOf c)
   unfolding unitOf openingOf
-  proper = go (eqb (p0 c) 0) refl
+  proper = go (eqb (upStage c) 0) (eqb (downStage c) 0) (eqb (p0 c) 0) refl refl refl
     where
-      go : (t : Bool) → eqb (p0 c) 0 ≡ t
-          → Proper (unitOf c) (cond t (idle (min (h c) (c .mindown .0)))
-          (running (p0 c) (c .minup .0 + 1 - (h c + DD c))))
-      go true e = (omega (arith, lim .elapsed-pos, lim .mindown-pos), omega arith)
-      go false e =
-          let on : 1 ≤ p0 c = omega (arith, eqb-false (p0 c) 0 e) in
-          (lim .initial-low on, lim .initial-le, omega (arith, lim .minup-le))
+      go : (a b t : Bool) → eqb (upStage c) 0 ≡ a → eqb (downStage c) 0 ≡ b → eqb (p0 c) 0 ≡ t
+          → Proper (unitOf c)
+          (cond a
+          (cond b
+          (cond t (idle (min (h c) (c .mindown .0))) (running (p0 c) (c .minup .0 + 1 - (h c + DD c))))
+          (Fall (downStage c - 1)))
+          (Rise (upStage c - 1)))
+      go false b t d e f =
+          let some : 1 ≤ upStage c = omega (arith, eqb-false (upStage c) 0 d) in
+          omega (arith, in-start c (lim .opened) some .1)
+      go true false t d e f =
+          let some : 1 ≤ downStage c = omega (arith, eqb-false (downStage c) 0 e) in
+          omega (arith, in-stop c (lim .opened) some .2)
+      go true true true d e f = (omega (arith, lim .elapsed-pos, lim .mindown-pos), omega arith)
+      go true true false d e f =
+          let on : 1 ≤ p0 c = omega (arith, eqb-false (p0 c) 0 f) in
+          let free = in-none c (lim .opened) (eqb-true (upStage c) 0 d) (eqb-true (downStage c) 0 e) on in
+          (free .0, free .1, omega (arith, lim .minup-le))
 
 pub fit-of-limits : (c : Case) → refusalOf c ≡ 0 → Fit (unitOf c)
 fit-of-limits c e = fit c (limits-of-refusalOf c e)

@@ -6,7 +6,7 @@ use mathlib.Core.List.{List, [], _∷_}
 use mathlib.Core.Option.{Option, none, some}
 use Prim.Native.Nat.{ℕ, zero, suc, _+_}
 use native.Mathlib.Omega.{arith}
-use lib.IntN.{ℤ, pos}
+use lib.IntN.{ℤ}
 use lib.ListN.{length}
 use Rattle.model.specs.declared.Case.{Case}
 use Rattle.model.specs.Symbols.{last}
@@ -14,9 +14,9 @@ use Rattle.model.proofs.LimitsLaws.{Limits}
 use Rattle.model.specs.Words.{Ordered}
 use Rattle.machine.specs.declared.State.{State}
 use Rattle.machine.specs.Search.{maybe, only, add, outcome}
-use Rattle.machine.specs.Moves.{obeys, earn, output, move, closing, machine}
+use Rattle.machine.specs.Moves.{obeys, earn, output, move, machine}
 use Rattle.machine.specs.Cases.{unitOf, termsOf}
-use Rattle.model.specs.Automaton.{St, off, up, run, down, Runs, Final}
+use Rattle.model.specs.Automaton.{St, Runs, Final}
 use Rattle.machine.specs.Image.{image, Good, profitFrom}
 use Rattle.machine.proofs.Search.Searched.{some-none}
 use Rattle.machine.proofs.Table.Sizes.{only-some}
@@ -30,20 +30,6 @@ unadd g none v e = absurd (some-none (sym e))
 unadd g (some w) v e = (w, refl)
 
 module _ (c : Case) (lim : Limits c) where
-  closes : (s : St) → Final s → closing (image c s) ≡ some (pos 0)
-  closes (off d) f = refl
-  closes (up zero) f = refl
-  closes (up (suc i)) f = refl
-  closes (run r w) f = refl
-  closes (down i) f = absurd f
-
-  closed : (s : St) (v : ℤ) → closing (image c s) ≡ some v → Final s
-  closed (off d) v e = tt
-  closed (up i) v e = tt
-  closed (run r w) v e = tt
-  closed (down zero) v e = some-none (sym e)
-  closed (down (suc i)) v e = some-none (sym e)
-
   abbrev Earned : ℕ → ℕ → St → List ℕ → Option ℤ
   Earned k n s l = outcome (machine (unitOf c) (termsOf c)) k n (image c s) l
 
@@ -58,7 +44,7 @@ module _ (c : Case) (lim : Limits c) where
   -- a list that runs earns its profit
   pub runs-profit : (l : List ℕ) (k : ℕ) (s : St) → k + length l ≡ last c → Good c s → Runs c Final (Ordered c) k s l
       → Earned k (length l) s l ≡ some (profitFrom c k (output (unitOf c) (image c s)) l)
-  runs-profit [] k s n g r = closes s r
+  runs-profit [] k s n g r = refl
   runs-profit (q ∷ l) k s n g (t, a, o, r) =
       let after = runs-profit l (suc k) t (omega arith) (good-step c lim q s t g a) r in
       let out = step-output c lim q s t g a in
@@ -71,7 +57,7 @@ module _ (c : Case) (lim : Limits c) where
 
   pub runs-of-earned : (l : List ℕ) (n k : ℕ) (s : St) (v : ℤ) → k + n ≡ last c → Good c s → Earned k n s l ≡ some v
       → Ran n k s l
-  runs-of-earned [] zero k s v m g e = (closed s v e, refl)
+  runs-of-earned [] zero k s v m g e = (tt, refl)
   runs-of-earned [] (suc n) k s v m g e = absurd (some-none (sym e))
   runs-of-earned (q ∷ l) zero k s v m g e = absurd (some-none (sym e))
   runs-of-earned (q ∷ l) (suc n) k s v m g e =

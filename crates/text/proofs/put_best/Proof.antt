@@ -15,6 +15,7 @@ use Rattle.model.specs.Limits.{mostHours, words}
 use Rattle.model.specs.Answers.{readOf}
 use Rattle.model.specs.Printed.{profitLine, refusedLine, hourLines, readText}
 use Rattle.model.proofs.LimitsLaws.{Limits}
+use Rattle.model.proofs.CapacityLaws.{initial-le}
 use Rattle.model.proofs.PrintedLaws.{length-refusedLine, length-profitLine, length-hourLines}
 use Rattle.text.specs.Lines.{hourLength, longest}
 use Rattle.text.proofs.PlanLaws.{abs-of-fits, told-refused, told-found, limits-found}
@@ -78,7 +79,7 @@ module _ (c : tie.After-known-told) where
   hours-length : length hours ≤ hourLength * mostHours
   hours-length =
       let case = read call .read .result .case in
-      let opening : case .initial .0 < words = omega (arith, limits .initial-le, limits .capacity-le) in
+      let opening : case .initial .0 < words = omega (arith, initial-le case limits, limits .capacity-le) in
       let few : case .hours < 100 = omega (arith, limits .hours-le) in
       omega (
         arith,

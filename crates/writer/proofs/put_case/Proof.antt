@@ -1,14 +1,14 @@
 -- `writer::put_case` meets its contract. Each section stands where the one before ends, and the file has room.
 -- Assumes nothing.
 use mathlib.Core.Path.{ap, _∙_}
-use Prim.Native.Nat.{_+_, _*_, _≤_}
+use Prim.Native.Nat.{_≤_}
 use native.Mathlib.Omega.{arith}
 use borrow.Author.Needs.{needs}
 use lib.ListN.{length}
 use lib.Seq.{sets}
 use Rattle.model.proofs.LimitsLaws.{Limits, limits-of-refusalOf}
 use Rattle.model.proofs.SetsLaws.{case-written}
-use Rattle.model.proofs.TripLaws.{length-bytesOf}
+use Rattle.model.proofs.TripLaws.{fileLength, length-bytesOf}
 use Rattle.writer.proofs.SectionsLaws.{rise-section, fall-section, form-section}
 use Rattle.writer.proofs.put_case.Statement.{statement}
 use Rattle.writer.proofs.put_case.Tie as tie
@@ -17,8 +17,7 @@ use Rattle.writer.proofs.put_case.Tie as tie
 limits : (s : tie.Start) → Limits (s .args .case)
 limits s = limits-of-refusalOf (s .args .case) (s .pre .0)
 
-room : (s : tie.Start)
-    → 54 + 2 * s .args .case .rises + 2 * s .args .case .falls + 5 * s .args .case .hours ≤ length (s .args .out .now)
+room : (s : tie.Start) → fileLength (s .args .case) ≤ length (s .args .out .now)
 room s = omega (arith, length-bytesOf (s .args .case))
 
 -- the entry, from what is written

@@ -1,16 +1,17 @@
 -- `writer::put_pairs` meets its contract. The record is within the limits, so that every offset and length is a 16-bit
 -- number; each pair stands where the one before ends. Assumes nothing.
-use Prim.Native.Nat.{_+_, _*_, _<_}
+use Prim.Native.Nat.{_<_}
 use native.Mathlib.Omega.{arith}
 use borrow.Author.Needs.{needs}
 use Rattle.model.specs.Limits.{words}
 use Rattle.model.proofs.SetsLaws.{pairs-written}
+use Rattle.model.proofs.TripLaws.{fileLength}
 use Rattle.writer.proofs.SectionsLaws.{file-short}
 use Rattle.writer.proofs.put_pairs.Statement.{statement}
 use Rattle.writer.proofs.put_pairs.Tie as tie
 
 -- the file is short
-short : (s : tie.Start) → 54 + 2 * s .args .case .rises + 2 * s .args .case .falls + 5 * s .args .case .hours < words
+short : (s : tie.Start) → fileLength (s .args .case) < words
 short s = file-short (s .args .case) (s .pre .0)
 
 -- the entry, from each pair

@@ -37,12 +37,19 @@ add-put-pair-3 c = search needs
 put-pair-requires-4 : tie.Need-put-pair-requires-4
 put-pair-requires-4 c κs = search needs
 
+add-put-bytes : tie.Need-add-put-bytes
+add-put-bytes c = search needs
+
+put-bytes-requires : tie.Need-put-bytes-requires
+put-bytes-requires c κs = search needs
+
 same-length : tie.Need-same-length
 same-length c = search needs
 
 returns : tie.Need-returns
 returns c =
-    let six = c .before .before in
+    let seven = c .before .before in
+    let six = seven .before .before .before .before in
     let five = six .before .before .before .before in
     let four = five .before .before .before .before in
     let three = four .before .before .before .before in
@@ -51,6 +58,7 @@ returns c =
     let args = one .before .before .before .args in
     unit-written (args .case) (args .out .now) (one .put-pair .ensures) (two .put-pair2 .ensures)
     (three .put-pair3 .ensures) (four .put-costs .ensures) (five .put-costs2 .ensures) (six .put-pair4 .ensures)
+    (seven .put-bytes .ensures)
 
 pub put-unit-spec : {M : Type 1} → statement M
 put-unit-spec =
@@ -67,5 +75,7 @@ put-unit-spec =
     put-costs-requires-2
     add-put-pair-3
     put-pair-requires-4
+    add-put-bytes
+    put-bytes-requires
     same-length
     returns)

@@ -1,93 +1,70 @@
--- `hours::counts::count_marks` meets its contract: each hour adds its marks. Assumes nothing.
+-- `hours::counts::count_marks` meets its contract: the starts are counted first, since a stop after T asks whether hour T
+-- lies in a start-up. Assumes nothing.
 use borrow.Author.Needs.{needs}
-use mathlib.Core.Path.{_≡_, refl}
+use mathlib.Core.Path.{_≡_, ap, _∙_}
 use native.Mathlib.Omega.{arith}
-use Prim.Native.Nat.{_-_}
-use lib.ListN.{length}
-use Rattle.model.specs.declared.Case.{Case}
-use Rattle.hours.specs.Counted.{lastCount}
-use Rattle.hours.proofs.CountLaws.{counting-few}
-use Rattle.hours.proofs.MarkingLaws.{Marking, marking-start, marking-step, marking-end}
+use Prim.Native.Nat.{_+_, _-_}
+use Rattle.model.specs.Limits.{mostStages}
+use Rattle.model.proofs.LimitsLaws.{Limits, limits-of-refusalOf}
+use Rattle.hours.specs.Counted.{counted, startOf}
+use Rattle.hours.proofs.StartsLaws.{starting-counted}
 use Rattle.hours.proofs.counts.count_marks.Statement.{statement}
 use Rattle.hours.proofs.counts.count_marks.Tie as tie
 
-abbrev Inv-loop : tie.InvT-loop
-Inv-loop list starts₀ stops₀ was₀ up₀ down₀ k₀ starts stops was up down k =
-    (c : Case) → length list ≡ c .hours → c .initial .0 ≡ was₀ .0 → Marking c list k (was .0) up down starts stops
+-- the case keeps the limits
+limits : (s : tie.Start) → Limits (s .args .case)
+limits s = limits-of-refusalOf (s .args .case) (s .pre .0)
 
-abbrev μ-loop : tie.MeasureT-loop
-μ-loop list starts₀ stops₀ was₀ up₀ down₀ k₀ starts stops was up down k = lastCount - k
+count-starts-requires : tie.Need-count-starts-requires
+count-starts-requires c κs = search needs
 
--- of the case that is given
-marking : (c : tie.At-loop Inv-loop μ-loop)
-    → let a = c .before .before .before .args in
-    let now = c .loop in
-    Marking (a .case) (a .list .now) (now .k) (now .was .0) (now .up) (now .down) (now .starts) (now .stops)
-marking c = let s = c .before .before .before in c .loop .inv (s .args .case) (s .pre .0) refl
+cast-t9 : tie.Need-cast-t9
+cast-t9 c = omega (arith, limits (c .before .before .before .before) .hours-le)
 
-loop-holds : tie.Need-loop-holds Inv-loop μ-loop
-loop-holds c =
-    let (starts, stops) = c .before .before .pre .1 in
-    λ case long e. marking-start long starts stops e
+add-t10 : tie.Need-add-t10
+add-t10 c = omega (arith, limits (c .before .before .before .before) .hours-le)
 
-sub-next-output : tie.Need-sub-next-output Inv-loop μ-loop
-sub-next-output c = omega (arith, marking (c .before) .some)
+add-t11 : tie.Need-add-t11
+add-t11 c = omega (arith, limits (c .before .before .before .before) .hours-le)
 
-next-output-requires : tie.Need-next-output-requires Inv-loop μ-loop
-next-output-requires c κs = search needs
+cast-t9-2 : tie.Need-cast-t9-2
+cast-t9-2 c = omega (arith, limits (c .before .before .before .before .before .before) .rises-le)
 
-marks-of-requires : tie.Need-marks-of-requires Inv-loop μ-loop
-marks-of-requires c κs = search needs
+less-requires : tie.Need-less-requires
+less-requires c κs = search needs
 
-add-up : tie.Need-add-up Inv-loop μ-loop
-add-up c =
-    let m = c .before in
-    omega (arith, m .marks-of .ensures, counting-few (marking (m .before .before .before) .starts))
+between-requires : tie.Need-between-requires
+between-requires c κs =
+    let s = c .before .before .before .before .before .before .before in (
+      omega (arith, c .less .ensures, limits s .hours-le),
+      (startOf (s .args .case) (s .args .list .now), c .before .before .before .before .count-starts .ensures),
+    )
 
-add-down : tie.Need-add-down Inv-loop μ-loop
-add-down c =
-    let m = c .before .before in
-    omega (arith, m .marks-of .ensures, counting-few (marking (m .before .before .before) .stops))
+count-stops-requires : tie.Need-count-stops-requires
+count-stops-requires c κs =
+    let b = c .before in
+    let s = b .before .before .before .before .before .before .before .before in
+    let case = s .args .case in
+    let f = startOf case (s .args .list .now) in
+    let next = case .hours + mostStages + 1 in
+    let started = b .between .ensures f (b .before .before .before .before .before .count-starts .ensures)
+    ∙ ap (λ n. counted f next - counted f n) (b .before .less .ensures)
+    ∙ starting-counted case (s .args .list .now) (limits s) (case .hours) in
+    (s .pre .0, (started, s .pre .1 .1))
 
-add-k : tie.Need-add-k Inv-loop μ-loop
-add-k c = search needs
-
-element-write-starts : tie.Need-element-write-starts Inv-loop μ-loop
-element-write-starts c = search needs
-
-element-write-stops : tie.Need-element-write-stops Inv-loop μ-loop
-element-write-stops c = search needs
-
-loop-less : tie.Need-loop-less Inv-loop μ-loop
-loop-less c = search needs
-
-loop-again : tie.Need-loop-again Inv-loop μ-loop
-loop-again c =
-    let m = c .before .before in
-    let is = m .before .next-output in
-    let inv = m .before .before .before .loop .inv in
-    let marks = m .marks-of in
-    λ case long e. marking-step long (is .result .0) (marks .result) (inv case long e) (search needs) (is .ensures)
-    (marks .ensures)
-
-returns : tie.Need-returns Inv-loop μ-loop
-returns c = marking-end (c .before .before .before .before .pre .0) (marking (c .before)) (search needs)
+returns : tie.Need-returns
+returns c = search needs
 
 pub count-marks-spec : {M : Type 1} → statement M
 count-marks-spec =
     tie.close
     (tie.spec
-    Inv-loop
-    μ-loop
-    loop-holds
-    sub-next-output
-    next-output-requires
-    marks-of-requires
-    add-up
-    add-down
-    add-k
-    element-write-starts
-    element-write-stops
-    loop-less
-    loop-again
+    count-starts-requires
+    cast-t9
+    add-t10
+    add-t11
+    cast-t9-2
+    less-requires
+    between-requires
+    count-stops-requires
     returns)

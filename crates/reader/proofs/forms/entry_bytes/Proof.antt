@@ -4,12 +4,14 @@ use mathlib.Core.Path.{sym, ap, _∙_}
 use native.Mathlib.Omega.{arith}
 use Rattle.model.specs.Forms.{entryLength}
 use Rattle.reader.specs.Tables.{tableOf}
-use Rattle.reader.proofs.TablesLaws.{entry-unit, entry-stage, entry-form}
+use Rattle.reader.proofs.TablesLaws.{entry-stage, entry-form}
 use Rattle.reader.proofs.forms.entry_bytes.Statement.{statement}
 use Rattle.reader.proofs.forms.entry_bytes.Tie as tie
 
 returns : tie.Need-returns
-returns c = entry-unit (c .before .args .form) (c .before .args .i) (c .if1 .taken)
+returns c =
+    let a = c .before .before .args in
+    c .unit .ensures ∙ ap (entryLength (tableOf (a .form))) (sym (c .before .if1 .taken))
 
 returns-2 : tie.Need-returns-2
 returns-2 c =
@@ -27,4 +29,6 @@ returns-4 c =
     entry-form (s .args .form) (s .args .i) (omega arith) (s .pre)
 
 pub entry-bytes-spec : {M : Type 1} → statement M
-entry-bytes-spec = tie.close (tie.spec returns returns-2 (λ c κs. search needs) returns-3 returns-4)
+entry-bytes-spec =
+    tie.close
+    (tie.spec (λ c κs. search needs) returns returns-2 (λ c κs. search needs) returns-3 returns-4)

@@ -10,7 +10,6 @@ use Rattle.model.specs.Symbols.{every, before}
 use Rattle.model.specs.Layout.{formOf}
 use Rattle.model.specs.Refusals.{fits, fitting, refusal2File}
 use Rattle.model.proofs.RefusalsLaws.{every-none, every-more}
-use Rattle.model.proofs.FormsLaws.{four-sections, known}
 use Rattle.model.proofs.AcceptedLaws.{linked}
 use Rattle.reader.specs.Tables.{tableOf}
 use Rattle.reader.proofs.TablesLaws.{sections-five, entry-sizes}
@@ -28,9 +27,7 @@ room : (s : tie.Start Inv-loop μ-loop) → 4 * length (formOf (s .args .file .n
 room s = linked (s .args .file .now) (s .pre) .long
 
 form-of-requires : tie.Need-form-of-requires Inv-loop μ-loop
-form-of-requires c κs =
-    let s = c .before in
-    omega (arith, room s, four-sections (known (s .args .file .now)))
+form-of-requires c κs = c .before .pre
 
 loop-holds : tie.Need-loop-holds Inv-loop μ-loop
 loop-holds c = (omega arith, every-none _)

@@ -8,11 +8,10 @@ use lib.ListN.{length, getD}
 use Rattle.model.specs.Limits.{mostStages}
 use Rattle.model.specs.Forms.{mostEntries, entryLength}
 use Rattle.model.specs.Layout.{endAt, sectionAt, caseIn, caseOf}
-use Rattle.model.proofs.FormsLaws.{four-sections, known}
-use Rattle.model.proofs.AcceptedLaws.{Whole, linked, whole, ends}
+use Rattle.model.proofs.AcceptedLaws.{Whole, whole, ends}
 use Rattle.reader.specs.Sections.{trajectoryOf, dayOf, assembled}
 use Rattle.reader.specs.Tables.{tableOf}
-use Rattle.reader.proofs.TablesLaws.{sections-four, entry-unit, entry-stage}
+use Rattle.reader.proofs.TablesLaws.{sections-four, unit-some, entry-stage}
 use Rattle.reader.proofs.SectionsLaws.{caseIn-sections, section-le, section-one}
 use Rattle.reader.proofs.sections.case_of.Statement.{statement}
 use Rattle.reader.proofs.sections.case_of.Tie as tie
@@ -45,10 +44,7 @@ module _ (c : tie.After-form-of) where
       )
 
 form-of-requires : tie.Need-form-of-requires
-form-of-requires c κs =
-    let s = c .before in
-    let f = s .args .file .now in
-    omega (arith, linked f (s .pre .0) .long, four-sections (known f))
+form-of-requires c κs = c .before .pre .0
 
 section-requires : tie.Need-section-requires
 section-requires c κs = inside c 1 (omega arith)
@@ -82,7 +78,7 @@ read-unit-requires : tie.Need-read-unit-requires
 read-unit-requires c κs =
     let form = c .before .before .before .before .before .before .before in
     let unit = section-one (all form) 0 (here form 0 (omega arith)) refl in
-    ap length (c .section4 .ensures) ∙ unit ∙ sym (entry-unit (form .form-of .result) 0 refl)
+    omega (arith, ap length (c .section4 .ensures) ∙ unit, unit-some (form .form-of .result))
 
 returns : tie.Need-returns
 unfolding caseOf

@@ -2,6 +2,8 @@
 use borrow.Author.Needs.{needs}
 use mathlib.Core.Path.{_≡_, _∙_, sym}
 use Rattle.model.specs.Rules.{brokenAt}
+use Prim.Native.Nat.{_≤_}
+use Rattle.model.proofs.LimitsLaws.{limits-of-refusalOf}
 use Rattle.model.proofs.CheckLaws.{brokenAt-zero}
 use Rattle.rules.proofs.BreachLaws.{broken-edge, kept-edge}
 use Rattle.rules.proofs.breach.first_breach.Statement.{statement}
@@ -11,6 +13,10 @@ abbrev start : tie.After-broken-edge → tie.Start
 start c =
     let counted = c .before .before .before .before in
     counted .before .before .before .before
+
+-- there is a shut-down
+some : (c : tie.After-broken-edge) → 1 ≤ start c .args .case .falls
+some c = let s = start c in limits-of-refusalOf (s .args .case) (s .pre .0) .falls-pos
 
 -- the rule of hour 0
 edge : (c : tie.After-broken-edge)
@@ -34,7 +40,7 @@ returns : tie.Need-returns
 returns c =
     let d = c .before in
     let a = start d .args in
-    broken-edge (a .case) (a .list .now) (d .broken-edge .result) (edge d) (c .if1 .taken)
+    broken-edge (a .case) (a .list .now) (some d) (d .broken-edge .result) (edge d) (c .if1 .taken)
 
 later-breach-requires : tie.Need-later-breach-requires
 later-breach-requires c κs = search needs
@@ -43,7 +49,8 @@ returns-2 : tie.Need-returns-2
 returns-2 c =
     let d = c .before .before .before .before in
     let a = start d .args in
-    kept-edge (a .case) (a .list .now) (sym (edge d) ∙ c .before .before .before .if1 .left) ∙ c .later-breach .ensures
+    kept-edge (a .case) (a .list .now) (some d) (sym (edge d) ∙ c .before .before .before .if1 .left)
+    ∙ c .later-breach .ensures
 
 pub first-breach-spec : {M : Type 1} → statement M
 first-breach-spec =

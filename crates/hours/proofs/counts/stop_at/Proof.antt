@@ -1,0 +1,99 @@
+-- `hours::counts::stop_at` meets its contract: in the day by the outputs at the ends of the hour, after it by the output
+-- of PD at which the day closes. Assumes nothing.
+use borrow.Author.Needs.{needs}
+use mathlib.Core.Path.{_≡_, sym, ap, _∙_}
+use native.Mathlib.Omega.{arith}
+use Prim.Native.Nat.{_+_, _-_}
+use Rattle.model.specs.Symbols.{stage}
+use Rattle.model.proofs.LimitsLaws.{Limits, limits-of-refusalOf}
+use Rattle.model.proofs.MarksLaws.{z-closing, z-started, z-far}
+use Rattle.hours.proofs.MarkLaws.{marks-at}
+use Rattle.hours.proofs.ClosingLaws.{closed}
+use Rattle.hours.proofs.counts.stop_at.Statement.{statement}
+use Rattle.hours.proofs.counts.stop_at.Tie as tie
+
+-- the case keeps the limits
+limits : (s : tie.Start) → Limits (s .args .case)
+limits s = limits-of-refusalOf (s .args .case) (s .pre .0)
+
+sub-t11 : tie.Need-sub-t11
+sub-t11 c = search needs
+
+cast-t12 : tie.Need-cast-t12
+cast-t12 c = search needs
+
+output-at-requires : tie.Need-output-at-requires
+output-at-requires c κs = search needs
+
+cast-t12-2 : tie.Need-cast-t12-2
+cast-t12-2 c = search needs
+
+output-at-requires-2 : tie.Need-output-at-requires-2
+output-at-requires-2 c κs = search needs
+
+marks-of-requires : tie.Need-marks-of-requires
+marks-of-requires c κs = search needs
+
+returns : tie.Need-returns
+returns c =
+    let is = c .before in
+    let was = is .before in
+    let a = c .before .before .before .before .before .args in
+    let at = marks-at (a .case) (a .list .now) (a .k) (search needs) (was .output-at .ensures) (is .output-at2 .ensures)
+    (c .marks-of .ensures) in
+    ap (λ m. m .stop) at
+
+add-end : tie.Need-add-end
+add-end c = let h = limits (c .before .before .before) in omega (arith, h .hours-le, h .falls-le)
+
+add-end-2 : tie.Need-add-end-2
+add-end-2 c = let h = limits (c .before .before .before) in omega (arith, h .hours-le, h .falls-le)
+
+returns-2 : tie.Need-returns-2
+returns-2 c =
+    let a = c .before .before .before .before .args in
+    sym (z-far (a .case) (a .list .now) (a .k) (search needs) (search needs))
+
+returns-3 : tie.Need-returns-3
+returns-3 c =
+    let a = c .before .before .before .before .before .args in
+    sym (z-started (a .case) (a .list .now) (a .k) (search needs) (λ e. omega (arith, c .before .before .before .before .before .pre)))
+
+cast-t17 : tie.Need-cast-t17
+cast-t17 c = search needs
+
+output-at-requires-3 : tie.Need-output-at-requires-3
+output-at-requires-3 c κs = search needs
+
+closing-requires : tie.Need-closing-requires
+closing-requires c κs = limits (c .before .before .before .before .before .before .before) .falls-le
+
+returns-4 : tie.Need-returns-4
+returns-4 c =
+    let s = c .before .before .before .before .before .before .before .before in
+    let a = s .args in
+    let case = a .case in
+    let i = case .hours + case .falls + 1 - a .k in
+    c .closing .ensures
+    ∙ ap (λ x. closed i (case .falls) x (stage (case .fall) i)) (c .before .output-at3 .ensures)
+    ∙ sym (z-closing case (a .list .now) (a .k) (search needs) (omega (arith, s .pre)))
+
+pub stop-at-spec : {M : Type 1} → statement M
+stop-at-spec =
+    tie.close
+    (tie.spec
+    sub-t11
+    cast-t12
+    output-at-requires
+    cast-t12-2
+    output-at-requires-2
+    marks-of-requires
+    returns
+    add-end
+    add-end-2
+    returns-2
+    returns-3
+    cast-t17
+    output-at-requires-3
+    closing-requires
+    returns-4)
