@@ -8,7 +8,7 @@ use borrow.Author.Tests.{eq-eqb, ne-eqb}
 use lib.Dec.{eqb}
 use Rattle.model.specs.declared.Case.{Case}
 use Rattle.model.specs.Limits.{mostStages}
-use Rattle.model.specs.Symbols.{sum, bit, UD, last, upStage}
+use Rattle.model.specs.Symbols.{bit, UD, last, upStage}
 use Rattle.model.specs.Marks.{y, yBack, starting}
 use Rattle.model.proofs.LimitsLaws.{Limits}
 use Rattle.model.proofs.CapacityLaws.{stages-le}

@@ -83,7 +83,12 @@ fn stop_at(case: Case, list: &[u16], started: u8, k: usize) -> u8
         return 0;
     }
     let fall = case.fall;
-    closing(fall, case.falls, output_at(case, list, Hour(hours as u16)), end - k)
+    closing(
+        fall,
+        case.falls,
+        output_at(case, list, Hour(hours as u16)),
+        end - k,
+    )
 }
 
 // The counts of the starts of a list, in place of zeros.

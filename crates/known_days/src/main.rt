@@ -37,11 +37,16 @@ const DAY: usize = 24;
 
 const TRAJECTORIES: usize = 6 * STAGE_BYTES;
 
-const SOURCE: usize =
-    PAIR_BYTES * OLD_SECTIONS + OLD_UNIT_BYTES + TRAJECTORIES + DAY * OLD_HOUR_BYTES;
+const SOURCE: usize = PAIR_BYTES * OLD_SECTIONS
+    + OLD_UNIT_BYTES
+    + TRAJECTORIES
+    + DAY * OLD_HOUR_BYTES;
 
-const SOURCE_NEW: usize =
-    PAIR_BYTES * SECTIONS + UNIT_BYTES + TRAJECTORIES + DAY * HOUR_BYTES + FORM_BYTES;
+const SOURCE_NEW: usize = PAIR_BYTES * SECTIONS
+    + UNIT_BYTES
+    + TRAJECTORIES
+    + DAY * HOUR_BYTES
+    + FORM_BYTES;
 
 // A word, and a number after it.
 fn print_number(word: &[u8], n: u64) {
@@ -465,7 +470,10 @@ fn print_forms(file: &[u8]) {
     io::write_all(STDOUT_FILENO, b"\n");
     print_best(b"source, form 3", codec::read(&bytes));
     bytes[SOURCE_NEW - FORM_BYTES] = 2;
-    print_best(b"source, form 2 with a unit of 34 bytes", codec::read(&bytes));
+    print_best(
+        b"source, form 2 with a unit of 34 bytes",
+        codec::read(&bytes),
+    );
     bytes[SOURCE_NEW - FORM_BYTES] = 4;
     print_best(b"source, form 4", codec::read(&bytes));
 }
@@ -558,10 +566,7 @@ fn print_closings() {
         b"closes at PD(3)",
         staged(low, Hour(3), 0, 0, Hour(1), 2, five),
     );
-    print_best(
-        b"closes at 0",
-        staged(low, Hour(3), 0, 0, Hour(1), 3, five),
-    );
+    print_best(b"closes at 0", staged(low, Hour(3), 0, 0, Hour(1), 3, five));
     print_best(
         b"opens and closes in a shut-down",
         staged(Output(2), Hour(4), 0, 2, Hour(1), 1, five),

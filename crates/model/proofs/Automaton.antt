@@ -15,3 +15,4 @@ pub mod Sound
 pub mod Ruled
 pub mod Literals
 pub mod Keeping
+pub mod Joined

@@ -10,7 +10,7 @@ use borrow.Author.Tests.{lt-ltb, le-ltb, lt-leb, le-leb, ne-eqb}
 use lib.Dec.{T, leb, ltb, eqb, leb→le}
 use lib.ListN.{length}
 use Rattle.model.specs.declared.Case.{Case}
-use Rattle.model.specs.Symbols.{sum, bit, low, UD, DD, PD, last, upStage}
+use Rattle.model.specs.Symbols.{bit, low, UD, DD, PD, last, upStage}
 use Rattle.model.specs.Marks.{p, y, yBack, starting, closes, z}
 use Rattle.model.specs.Rules.{keeps}
 use Rattle.model.specs.Profit.{profitOf}

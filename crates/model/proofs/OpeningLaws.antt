@@ -1,7 +1,7 @@
 -- What the opening of a case within the limits says where it is in a start-up, in a shut-down, and in neither. Assumes
 -- nothing.
 use mathlib.Core.Path.{_≡_}
-use Prim.Native.Nat.{ℕ, _+_, _≤_, _<_}
+use Prim.Native.Nat.{_+_, _≤_, _<_}
 use native.Mathlib.Omega.{arith}
 use Rattle.model.specs.declared.Case.{Case}
 use Rattle.model.specs.Symbols.{high, low, UD, DD, PU, PD, p0, h, upStage, downStage}

@@ -45,7 +45,8 @@ staged c = sym (c .before .counted .ensures) ∙ not-false _ (c .if1 .left)
 
 opens-at-requires : tie.Need-opens-at-requires
 opens-at-requires c κs =
-    let n = counted (c .before .before .before .before .before) in
+    let start = c .before .before .before .before .before in
+    let n = counted start in
     let s = within-true 1 (case c .rises - 1) (stage c) (staged c) in
     omega arith
 

@@ -1,7 +1,7 @@
 -- `hours::counts::count_marks` meets its contract: the starts are counted first, since a stop after T asks whether hour T
 -- lies in a start-up. Assumes nothing.
 use borrow.Author.Needs.{needs}
-use mathlib.Core.Path.{_≡_, ap, _∙_}
+use mathlib.Core.Path.{ap, _∙_}
 use native.Mathlib.Omega.{arith}
 use Prim.Native.Nat.{_+_, _-_}
 use Rattle.model.specs.Limits.{mostStages}
@@ -28,7 +28,9 @@ add-t11 : tie.Need-add-t11
 add-t11 c = omega (arith, limits (c .before .before .before .before) .hours-le)
 
 cast-t9-2 : tie.Need-cast-t9-2
-cast-t9-2 c = omega (arith, limits (c .before .before .before .before .before .before) .rises-le)
+cast-t9-2 c =
+    let s = c .before .before .before .before .before .before in
+    omega (arith, limits s .rises-le)
 
 less-requires : tie.Need-less-requires
 less-requires c κs = search needs
@@ -43,11 +45,12 @@ between-requires c κs =
 count-stops-requires : tie.Need-count-stops-requires
 count-stops-requires c κs =
     let b = c .before in
-    let s = b .before .before .before .before .before .before .before .before in
+    let counted-starts = b .before .before .before .before .before in
+    let s = counted-starts .before .before .before in
     let case = s .args .case in
     let f = startOf case (s .args .list .now) in
     let next = case .hours + mostStages + 1 in
-    let started = b .between .ensures f (b .before .before .before .before .before .count-starts .ensures)
+    let started = b .between .ensures f (counted-starts .count-starts .ensures)
     ∙ ap (λ n. counted f next - counted f n) (b .before .less .ensures)
     ∙ starting-counted case (s .args .list .now) (limits s) (case .hours) in
     (s .pre .0, (started, s .pre .1 .1))

@@ -1,7 +1,6 @@
 -- `hours::counts::start_at` meets its contract: below hour 1 by the stage, in the day by the outputs at the ends of the hour. Assumes nothing.
 use borrow.Author.Needs.{needs}
-use mathlib.Core.Path.{_≡_, sym, ap, _∙_}
-use native.Mathlib.Omega.{arith}
+use mathlib.Core.Path.{sym, ap, _∙_}
 use Prim.Native.Nat.{_-_}
 use Rattle.model.specs.Limits.{mostStages}
 use Rattle.hours.proofs.MarkLaws.{marks-at}

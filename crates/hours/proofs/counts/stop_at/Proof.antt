@@ -1,7 +1,7 @@
 -- `hours::counts::stop_at` meets its contract: in the day by the outputs at the ends of the hour, after it by the output
 -- of PD at which the day closes. Assumes nothing.
 use borrow.Author.Needs.{needs}
-use mathlib.Core.Path.{_≡_, sym, ap, _∙_}
+use mathlib.Core.Path.{sym, ap, _∙_}
 use native.Mathlib.Omega.{arith}
 use Prim.Native.Nat.{_+_, _-_}
 use Rattle.model.specs.Symbols.{stage}
@@ -56,8 +56,9 @@ returns-2 c =
 
 returns-3 : tie.Need-returns-3
 returns-3 c =
-    let a = c .before .before .before .before .before .args in
-    sym (z-started (a .case) (a .list .now) (a .k) (search needs) (λ e. omega (arith, c .before .before .before .before .before .pre)))
+    let s = c .before .before .before .before .before in
+    let a = s .args in
+    sym (z-started (a .case) (a .list .now) (a .k) (search needs) (λ e. omega (arith, s .pre)))
 
 cast-t17 : tie.Need-cast-t17
 cast-t17 c = search needs
@@ -66,7 +67,9 @@ output-at-requires-3 : tie.Need-output-at-requires-3
 output-at-requires-3 c κs = search needs
 
 closing-requires : tie.Need-closing-requires
-closing-requires c κs = limits (c .before .before .before .before .before .before .before) .falls-le
+closing-requires c κs =
+    let s = c .before .before .before .before .before .before .before in
+    limits s .falls-le
 
 returns-4 : tie.Need-returns-4
 returns-4 c =
