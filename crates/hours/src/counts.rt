@@ -38,13 +38,12 @@ fn start_at(case: Case, list: &[u16], n: usize) -> u8
         }
         return 0;
     }
-    let k = n - STAGES;
-    if case.hours < k {
+    if case.hours < n - STAGES {
         return 0;
     }
-    let was = output_at(case, list, Hour((k - 1) as u16));
-    let is = output_at(case, list, Hour(k as u16));
-    marks_of(was, is).start
+    let k = Hour((n - STAGES) as u16);
+    let was = output_at(case, list, k.less(Hour(1)));
+    marks_of(was, output_at(case, list, k)).start
 }
 
 // 1 where a day that ends at this output closes at entry i of the shut-down trajectory, else 0.
@@ -63,20 +62,20 @@ fn closing(fall: [Output; STAGES], falls: usize, end: Output, i: usize) -> u8
 }
 
 // The mark of a stop in hour k, from hour 1 on; `started` start-ups hold hour T.
-fn stop_at(case: Case, list: &[u16], started: u8, k: usize) -> u8
+fn stop_at(case: Case, list: &[u16], started: u8, k: Hour) -> u8
     requires { ⌜ refusalOf case ≡ 0 ⌝ }
-    requires { ⌜ (1 ≤ k) × (k ≤ lastCount) ⌝ }
+    requires { ⌜ 1 ≤ k .0 ⌝ }
     requires { ⌜ started ≡ starting case (now list) (last case) ⌝ }
-    ensures { λ r. ⌜ r ≡ z case (now (list .entry)) k ⌝ }
+    ensures { λ r. ⌜ r ≡ z case (now (list .entry)) (k .0) ⌝ }
 {
     let hours = case.hours;
-    if k <= hours {
-        let was = output_at(case, list, Hour((k - 1) as u16));
-        let is = output_at(case, list, Hour(k as u16));
-        return marks_of(was, is).stop;
+    let at = k.0 as usize;
+    if at <= hours {
+        let was = output_at(case, list, k.less(Hour(1)));
+        return marks_of(was, output_at(case, list, k)).stop;
     }
     let end = hours + case.falls + 1;
-    if end < k {
+    if end < at {
         return 0;
     }
     if started != 0 {
@@ -87,7 +86,7 @@ fn stop_at(case: Case, list: &[u16], started: u8, k: usize) -> u8
         fall,
         case.falls,
         output_at(case, list, Hour(hours as u16)),
-        end - k,
+        end - at,
     )
 }
 
@@ -116,7 +115,7 @@ fn count_stops(case: Case, list: &[u16], started: u8, stops: &mut [u8; COUNTS])
     let mut marks = 0;
     let mut k = 1;
     while k < LAST {
-        marks += stop_at(case, list, started, k);
+        marks += stop_at(case, list, started, Hour(k as u16));
         k += 1;
         stops[k] = marks;
     }

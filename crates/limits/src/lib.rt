@@ -5,7 +5,7 @@ ghost use mathlib.Core.Path.{_≡_};
 ghost use Prim.Native.Nat.{suc, _≤_, _<_};
 ghost use lib.Dec.{leb, eqb};
 ghost use lib.IntN.{pos, negℤ};
-ghost use Rattle.model.specs.Limits.{mostStages, mostHours, mostPrice, mostOrder};
+ghost use Rattle.model.specs.Limits.{words, mostStages, mostHours, mostPrice, mostOrder};
 ghost use Rattle.model.specs.Symbols.{every, stage, hourly, priced};
 ghost use Rattle.model.specs.Refusals.{within, amounts, refusal2, refusal3, refusal4, refusal5, refusal6, refusal7};
 ghost use Rattle.model.specs.Refusals.{refusal8, refusal13, climbs, descends, opensFree, opensUp, opensDown, refusalOf};
@@ -135,11 +135,12 @@ fn refusal6(case: Case) -> bool
     !(climbs(case) & descends(case))
 }
 
-// Hours, and a stage, as a count.
-fn hours_of(hours: Hour) -> usize
-    ensures { λ r. ⌜ r ≡ hours .0 ⌝ }
+// A count as hours, and a stage as a count.
+fn hours_of(n: usize) -> Hour
+    requires { ⌜ n < words ⌝ }
+    ensures { λ r. ⌜ r .0 ≡ n ⌝ }
 {
-    hours.0 as usize
+    Hour(n as u16)
 }
 
 fn stage_of(stage: u8) -> usize
@@ -157,13 +158,14 @@ fn opens_at(case: Case, outputs: [Output; STAGES], i: usize) -> bool
     case.initial.0 == output.0
 }
 
-// The day opens in no sequence.
+// The day opens in no sequence, for counts that 2 does not refuse.
 fn opens_free(case: Case) -> bool
+    requires { ⌜ refusal2 case ≡ false ⌝ }
     ensures { λ r. ⌜ r ≡ opensFree case ⌝ }
 {
     let output = case.initial.0;
     let running = between(output, case.minimum.0, case.capacity.0);
-    let risen = case.rises <= hours_of(case.elapsed);
+    let risen = hours_of(case.rises).0 <= case.elapsed.0;
     (case.upstage == 0) & ((case.downstage == 0) & ((output == 0) | (running & risen)))
 }
 
@@ -178,7 +180,7 @@ fn opens_up(case: Case) -> bool
         return false;
     }
     let output = opens_at(case, rise, stage);
-    let hours = hours_of(case.elapsed) == stage;
+    let hours = case.elapsed.0 == hours_of(stage).0;
     (case.downstage == 0) & (output & hours)
 }
 
@@ -193,7 +195,7 @@ fn opens_down(case: Case) -> bool
         return false;
     }
     let output = opens_at(case, fall, stage);
-    let hours = case.rises + stage - 1 <= hours_of(case.elapsed);
+    let hours = hours_of(case.rises + stage - 1).0 <= case.elapsed.0;
     (case.upstage == 0) & (output & hours)
 }
 

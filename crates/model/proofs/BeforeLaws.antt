@@ -15,7 +15,8 @@ use Rattle.model.specs.Marks.{p, y, yBack, starting, closes, z}
 use Rattle.model.specs.Rules.{keeps}
 use Rattle.model.specs.Profit.{profitOf}
 use Rattle.model.specs.Refusals.{within}
-use Rattle.model.specs.Words.{Kept, kept1, tested, KeepsAll, markingOf, insideOf, earned, online, ups, downs, upOutput}
+use Rattle.model.specs.Words.{Kept, kept1, tested, KeepsAll, markingOf, insideOf, earned, online, ups, downs}
+use Rattle.model.specs.Words.{upOutput}
 use Rattle.model.proofs.SymbolsLaws.{sum-zeros, sum-same}
 use Rattle.model.proofs.LimitsLaws.{Limits}
 use Rattle.model.proofs.MarksLaws.{z-after, yBack-in, yBack-out, of-closes}
@@ -44,7 +45,8 @@ module _ (c : Case) (l : List ℕ) (lim : Limits c) (free : upStage c ≡ 0) whe
         held : (t : ℕ) → last c ≡ t → T (tested c t 1)
         held zero e = absurd (omega (arith, lim .hours-pos))
         held (suc t) e =
-            subst (λ b. T (cond b (within 1 12 1 || within 21 23 1) (eqb 1 21))) (sym (lt-ltb t (last c) (omega arith))) tt
+            let inside = lt-ltb t (last c) (omega arith) in
+            subst (λ b. T (cond b (within 1 12 1 || within 21 23 1) (eqb 1 21))) (sym inside) tt
 
     least-output : low c * online c (insideOf c l) (last c) ≤ p c l (last c)
         + low c * (downs c (insideOf c l) (last c) + ups c (insideOf c l) (last c))
@@ -66,7 +68,8 @@ module _ (c : Case) (l : List ℕ) (lim : Limits c) (free : upStage c ≡ 0) whe
     not-closed i e =
         let (a, b, q, s) = of-closes c l i e in
         let m = insideOf c l in
-        let on : online c m (last c) ≡ 1 = ap bit (lt-ltb 0 (p c l (last c)) (omega (arith, pd-pos c lim i (omega arith) b))) in
+        let above : 0 < p c l (last c) = omega (arith, pd-pos c lim i (omega arith) b) in
+        let on : online c m (last c) ≡ 1 = ap bit (lt-ltb 0 (p c l (last c)) above) in
         let none : downs c m (last c) ≡ 0 = sum-zeros (λ i. m .z (last c + i)) (DD c)
         (λ j x w. ap (λ t. cond t (z c l (last c + j)) 0) (lt-leb (last c + j) (last c) (omega arith))) in
         let quiet : ups c m (last c) ≡ 0 = sum-same (λ i. m .back (last c) i) (λ i. yBack c l (last c) i) (UD c)

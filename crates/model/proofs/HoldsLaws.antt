@@ -11,7 +11,7 @@ use lib.ListN.{getD}
 use Rattle.model.specs.declared.Case.{Case}
 use Rattle.model.specs.declared.Output.{Output}
 use Rattle.model.specs.Limits.{mostStages}
-use Rattle.model.specs.Forms.{Form, unitWidths, oldForm, width, entryLength}
+use Rattle.model.specs.Forms.{Form, unitWidths, stagedWidths, oldForm, width, entryLength}
 use Rattle.model.specs.Layout.{numberAt, offsetAt, lengthAt, padded, noOutput, noMills, signed, zeroed, bytesOf}
 use Rattle.model.specs.Layout.{sectionAt, fieldAt, formOf, entriesAt, entryAt, caseIn, caseOf}
 use Rattle.model.specs.Refusals.{refusalOf}
@@ -37,11 +37,11 @@ padded-entry rest f g {n} {m} {size} e same room i h =
 
 -- the stages of a record, and the length of the unit that holds them or does not
 record Staged (s : List ℕ) (c : Case) : Type 0 where
-  old-unit : Stageless s → word s 2 ≡ 32
-  unit : (Stageless s → ⊥) → word s 2 ≡ 34
+  old-unit : Stageless s → word s 2 ≡ width unitWidths
+  unit : (Stageless s → ⊥) → word s 2 ≡ width stagedWidths
   no-stages : Stageless s → (c .upstage ≡ 0) × (c .downstage ≡ 0)
-  upstage : (Stageless s → ⊥) → getD s (word s 0 + 32) 0 ≡ c .upstage
-  downstage : (Stageless s → ⊥) → getD s (word s 0 + 33) 0 ≡ c .downstage
+  upstage : (Stageless s → ⊥) → getD s (word s 0 + width unitWidths) 0 ≡ c .upstage
+  downstage : (Stageless s → ⊥) → getD s (word s 0 + (width unitWidths + 1)) 0 ≡ c .downstage
 
 -- ---- a record whose entries below its counts are those of the file, in a form with these stages and prices of w bytes
 module _ (stages : List ℕ) (w : ℕ) (more : Form) (file : List ℕ) (whole : Whole (formed stages w more) file) (c : Case)
@@ -201,15 +201,16 @@ module _ (w : ℕ) (more : Form) (file : List ℕ) (c : Case) where
   unfolding caseIn zeroed entryAt fieldAt
   with-stages whole e h =
       let long = unit-length stageWidths w more file whole c e in
-      let byte : (k : ℕ) → k + 1 ≤ 34 → getD file (word file 0 + k) 0 ≡ numberAt (sectionAt file 0) k 1 =
+      let part = sectionAt file 0 in
+      let byte : (k : ℕ) → k + 1 ≤ width stagedWidths → getD file (word file 0 + k) 0 ≡ numberAt part k 1 =
       λ k room. sym (numberAt-one file (word file 0 + k))
       ∙ section-number stageWidths w more file whole c e 0 k 1 (omega arith) in
       record {
         old-unit = λ s. absurd (h s);
         unit = λ x. sym (length-word file 0) ∙ long;
         no-stages = λ s. absurd (h s);
-        upstage = λ x. byte 32 (omega arith) ∙ ap (λ d. d .upstage) e;
-        downstage = λ x. byte 33 (omega arith) ∙ ap (λ d. d .downstage) e;
+        upstage = λ x. byte (width unitWidths) (omega arith) ∙ ap (λ d. d .upstage) e;
+        downstage = λ x. byte (width unitWidths + 1) (omega arith) ∙ ap (λ d. d .downstage) e;
       }
 
 -- ---- the old form

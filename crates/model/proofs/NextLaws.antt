@@ -56,7 +56,8 @@ module _ (c : Case) (l : List ℕ) (prices : List Mills) (orders : List ℕ) (n 
       (λ t v x. left c l lim prices orders n t v .opening) r in
       next-limits c prices orders n within l (runs-const c (Opening next) (Ordered c) l 0 (start c) said)
 
-  module _ (m : List ℕ) (room : last c + n ≤ mostHours) (first-long : length l ≡ last c) (second-long : length m ≡ n) where
+  module _ (m : List ℕ) (room : last c + n ≤ mostHours) (first-long : length l ≡ last c)
+      (second-long : length m ≡ n) where
     limBoth : Limits both
     limBoth = limits-both c prices orders n lim (limits-of-refusalOf (anotherDay c prices orders n) within) room
 
@@ -110,8 +111,8 @@ module _ (c : Case) (l : List ℕ) (prices : List Mills) (orders : List ℕ) (n 
         let (e, late, r) = keeps-runs both (l ++ m) limBoth .0 t in
         let from = subst (λ s. Runs both Final (Ordered both) 0 s (l ++ m)) same-start r in
         let split = runs-split both Final (Ordered both) m (last c) l 0 (start c) (omega arith) from in
-        let ran = runs-map both c (λ q s t g. step-from c (openingOf c) _ _ _ q s t g) On (Ordered both) (Ordered c) l 0 0
-        (start c) first-ordered split in
+        let ran = runs-map both c (λ q s t g. step-from c (openingOf c) _ _ _ q s t g) On (Ordered both) (Ordered c)
+        l 0 0 (start c) first-ordered split in
         let kept = keeps-runs c l lim .1
         (first-long, late, runs-ends c l lim first-long late On Final (λ t v x. tt) ran) in
         let limNext = limits-of-refusalOf next (next-opens kept) in
@@ -126,10 +127,10 @@ module _ (c : Case) (l : List ℕ) (prices : List Mills) (orders : List ℕ) (n 
         let (e, late, r) = keeps-runs c l lim .0 t in
         let (f, later, s) = keeps-runs next m (limits-of-refusalOf next (next-opens t)) .0 u in
         let ran = runs-ends c l lim e late Final On
-        (λ t v x. on-both t
-        (alike-runs next (Ordered next) m 0 (start next) t (alike-back next (left c l lim prices orders n t v .like)) s)) r in
-        let moved = runs-map c both (λ q s t g. step-to c (openingOf c) _ _ _ q s t g) On (Ordered c) (Ordered both) l 0 0
-        (start c) first-back ran in
+        (λ t v x. let like = alike-back next (left c l lim prices orders n t v .like) in
+        on-both t (alike-runs next (Ordered next) m 0 (start next) t like s)) r in
+        let moved = runs-map c both (λ q s t g. step-to c (openingOf c) _ _ _ q s t g) On (Ordered c) (Ordered both)
+        l 0 0 (start c) first-back ran in
         let long : length (l ++ m) ≡ last c + n = omega (arith, length-append l m) in
         let joined = runs-join both Final (Ordered both) m (last c) l 0 (start c) (omega arith) moved in
         keeps-runs both (l ++ m) limBoth .1

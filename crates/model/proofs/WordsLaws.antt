@@ -95,7 +95,8 @@ module _ (c : Case) (l : List ℕ) where
       omega (arith, back-of (last c) i s, term-le-sum (λ i. yBack c l (last c) i) (UD c) i a b)
 
   pub settled-of : starting c l (last c) ≡ 0 → Settled c l
-  settled-of e = record { started = λ s g. after s g (decLe (s + UD c) (last c)); opened = λ a. past a (decLt (UD c) _) }
+  settled-of e =
+      record { started = λ s g. after s g (decLe (s + UD c) (last c)); opened = λ a. past a (decLt (UD c) _) }
     where
       after : (s : ℕ) → Starts c l s → Dec (s + UD c ≤ last c) → s + UD c ≤ last c
       after s g (yes h) = h

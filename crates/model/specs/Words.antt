@@ -1,7 +1,7 @@
 -- A second view of the rules: the marks by the outputs; each rule in the source's own form, with its minus signs, or in
 -- the words of document 01, "Rules of a list", for any marks; the profit by its sums; the first breach; demand 3's
--- "earns less, or earns the same and is the higher"; and a number in decimal. The promises tie it to Marks, Constraints,
--- Rules, Profit, Best and Printed; no entry rests on it. Definitions only. Assumes nothing.
+-- "earns less, or earns the same and is the higher"; and a number in decimal. The promises tie it to Marks,
+-- Constraints, Rules, Profit, Best and Printed; no entry rests on it. Definitions only. Assumes nothing.
 use mathlib.Core.Path.{_≡_}
 use mathlib.Core.Bool.{Bool, _||_, cond}
 use mathlib.Core.List.{List, [], _∷_}
@@ -31,8 +31,8 @@ module _ (c : Case) (l : List ℕ) where
   -- it stops in hour k of the day, or, where the day closes at PD(i), DD + 1 − i hours after it
   pub data Stops (k : ℕ) : Type 0 where
     stops-inside : 1 ≤ k → k ≤ c .hours → 1 ≤ p c l (k - 1) → p c l k ≡ 0 → Stops k
-    stops-after : (i : ℕ) → 2 ≤ i → i ≤ c .falls → k + i ≡ c .hours + c .falls + 1 → p c l (c .hours) ≡ stage (c .fall) i
-        → Settled → Stops k
+    stops-after : (i : ℕ) → 2 ≤ i → i ≤ c .falls → k + i ≡ c .hours + c .falls + 1
+        → p c l (c .hours) ≡ stage (c .fall) i → Settled → Stops k
 
   -- y(k−i+1) is a start in the day, or that in which the day opens: k − i + 1 is 1 − stage
   pub data StartsBack (k i : ℕ) : Type 0 where

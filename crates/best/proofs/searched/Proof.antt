@@ -1,5 +1,5 @@
--- `best::searched` meets its contract: the search's number and list are those of the best list, and the working numbers are
--- zeroed whatever it left in them. Assumes nothing.
+-- `best::searched` meets its contract: the search's number and list are those of the best list, and the working numbers
+-- are zeroed whatever it left in them. Assumes nothing.
 use borrow.Author.Needs.{needs}
 use mathlib.Core.Path.{refl, sym, ap, _∙_, subst}
 use native.Mathlib.Omega.{arith}
@@ -131,7 +131,8 @@ returns c =
     let work = s .args .work .now in
     let outputs = s .args .outputs .now in
     let absent = sym (c .before .absent .ensures) ∙ c .if1 .taken in
-    let r = find-none (s .args .case) (s .pre .0 .0) (s .pre .0 .1) (fit a) (fair a) work outputs _ _ (found a) absent in (
+    let (accepted, late) = s .pre .0 in
+    let r = find-none (s .args .case) accepted late (fit a) (fair a) work outputs _ _ (found a) absent in (
       r .0,
       (
         c .before .before .before .clear .ensures ∙ cleared-past workLength work _ (a .search-first .ensures .1)
@@ -153,7 +154,8 @@ returns-2 c =
     let work = s .args .work .now in
     let outputs = s .args .outputs .now in
     let present = sym (c .before .absent .ensures) ∙ c .if1 .left in
-    let r = find-some (s .args .case) (s .pre .0 .0) (s .pre .0 .1) (fit a) (fair a) work outputs _ _ (found a) present in (
+    let (accepted, late) = s .pre .0 in
+    let r = find-some (s .args .case) accepted late (fit a) (fair a) work outputs _ _ (found a) present in (
       r .0,
       (
         c .before .before .before .clear .ensures ∙ cleared-past workLength work _ (a .search-first .ensures .1)

@@ -43,18 +43,18 @@ bounds c =
 opens-at-requires : tie.Need-opens-at-requires
 opens-at-requires c κs = let b = bounds c in omega arith
 
-add-hours : tie.Need-add-hours
-add-hours c = let b = bounds (c .before .before) in omega arith
+add-hours-of : tie.Need-add-hours-of
+add-hours-of c = let b = bounds (c .before .before) in omega arith
 
-sub-hours : tie.Need-sub-hours
-sub-hours c = let b = bounds (c .before .before) in omega arith
+sub-hours-of : tie.Need-sub-hours-of
+sub-hours-of c = let b = bounds (c .before .before) in omega arith
 
 hours-of-requires : tie.Need-hours-of-requires
-hours-of-requires c κs = tt
+hours-of-requires c κs = let b = bounds (c .before .before) in omega arith
 
 returns-2 : tie.Need-returns-2
 returns-2 c =
-    let hours = c .before in
+    let hours = c .before .before .before in
     let output = hours .before .before in
     let here = output .before in
     opensDown-some (case here) _ _ (here .before .before .stage-of .ensures) (hours .hours-of .ensures) (staged here)
@@ -67,7 +67,7 @@ opens-down-spec =
     stage-of-requires
     returns
     opens-at-requires
-    add-hours
-    sub-hours
+    add-hours-of
+    sub-hours-of
     hours-of-requires
     returns-2)

@@ -51,11 +51,16 @@ opens-at-requires c κs =
     omega arith
 
 hours-of-requires : tie.Need-hours-of-requires
-hours-of-requires c κs = tt
+hours-of-requires c κs =
+    let here = c .before in
+    let start = here .before .before .before .before .before in
+    let n = counted start in
+    let s = within-true 1 (case here .rises - 1) (stage here) (staged here) in
+    omega arith
 
 returns-2 : tie.Need-returns-2
 returns-2 c =
-    let hours = c .before in
+    let hours = c .before .before .before in
     let here = hours .before .before in
     opensUp-some (case here) _ _ (here .before .before .before .stage-of .ensures) (hours .hours-of .ensures)
     (staged here) (hours .before .opens-at .ensures)

@@ -8,7 +8,7 @@ between-requires : tie.Need-between-requires
 between-requires c κs = tt
 
 opens-free-requires : tie.Need-opens-free-requires
-opens-free-requires c κs = tt
+opens-free-requires c κs = c .before .pre
 
 opens-up-requires : tie.Need-opens-up-requires
 opens-up-requires c κs = c .before .before .pre

@@ -72,7 +72,8 @@ module _ (c : Case) (accepted : refusalOf c ≡ 0) (late : stopsEarly c ≡ fals
         (search-bestDay c accepted late ∙ best)
 
     kept : T (keeps c l)
-    kept = subst (Answers (keeps c) (profitOf c)) (search-bestDay c accepted late ∙ best) (answers c accepted late) .kept
+    kept =
+        subst (Answers (keeps c) (profitOf c)) (search-bestDay c accepted late ∙ best) (answers c accepted late) .kept
 
     -- what the opening is worth is what the best list earns
     pub value-profit : value (machine (unitOf c) (termsOf c)) 0 (c .hours) (openingOf c) ≡ some (profitOf c l)

@@ -1,5 +1,5 @@
--- `hours::counts::count_marks` meets its contract: the starts are counted first, since a stop after T asks whether hour T
--- lies in a start-up. Assumes nothing.
+-- `hours::counts::count_marks` meets its contract: the starts are counted first, since a stop after T asks whether hour
+-- T lies in a start-up. Assumes nothing.
 use borrow.Author.Needs.{needs}
 use mathlib.Core.Path.{ap, _∙_}
 use native.Mathlib.Omega.{arith}

@@ -35,7 +35,9 @@ add-marks : tie.Need-add-marks Inv-loop μ-loop
 add-marks c =
     let s = c .before .before in
     let a = s .before .before .args in
-    omega (arith, counting-few (s .loop .inv .counting), s .loop .inv .most, c .start-at .ensures, yBack-le (a .case) (a .list .now) (s .loop .n) (suc mostStages))
+    let mark = c .start-at .ensures in
+    let few = counting-few (s .loop .inv .counting) in
+    omega (arith, s .loop .inv .most, yBack-le (a .case) (a .list .now) (s .loop .n) (suc mostStages))
 
 add-n : tie.Need-add-n Inv-loop μ-loop
 add-n c = search needs

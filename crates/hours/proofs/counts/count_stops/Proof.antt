@@ -2,14 +2,14 @@
 use borrow.Author.Needs.{needs}
 use native.Mathlib.Omega.{arith}
 use Prim.Native.Nat.{_-_}
+use Rattle.model.specs.Marks.{z}
+use Rattle.model.proofs.MarksLaws.{z-zero}
+use Rattle.model.proofs.TimesLaws.{z-le}
 use Rattle.hours.specs.Counted.{lastCount}
 use Rattle.hours.proofs.CountLaws.{counting-few}
 use Rattle.hours.proofs.MarkingLaws.{Marking, marking-start, marking-step, marking-end}
 use Rattle.hours.proofs.counts.count_stops.Statement.{statement}
 use Rattle.hours.proofs.counts.count_stops.Tie as tie
-use Rattle.model.specs.Marks.{z}
-use Rattle.model.proofs.MarksLaws.{z-zero}
-use Rattle.model.proofs.TimesLaws.{z-le}
 
 abbrev Inv-loop : tie.InvT-loop
 Inv-loop case list started stops₀ marks₀ k₀ stops marks k = Marking (z case list) k marks stops
@@ -24,17 +24,21 @@ loop-holds c =
     let l = s .args .list .now in
     marking-start (s .pre .1 .1) (z-zero case l) (z-le case l)
 
+cast-t9 : tie.Need-cast-t9 Inv-loop μ-loop
+cast-t9 c = omega (arith, c .before .loop .inv .most)
+
 stop-at-requires : tie.Need-stop-at-requires Inv-loop μ-loop
 stop-at-requires c κs =
     let s = c .before .before .before in
-    let i = c .before .loop .inv in
-    (s .pre .0, ((i .some, i .most), s .pre .1 .0))
+    (s .pre .0, (c .before .loop .inv .some, s .pre .1 .0))
 
 add-marks : tie.Need-add-marks Inv-loop μ-loop
 add-marks c =
     let s = c .before .before in
     let a = s .before .before .args in
-    omega (arith, counting-few (s .loop .inv .counting), s .loop .inv .most, c .stop-at .ensures, z-le (a .case) (a .list .now) (s .loop .k))
+    let mark = c .stop-at .ensures in
+    let few = counting-few (s .loop .inv .counting) in
+    omega (arith, s .loop .inv .most, z-le (a .case) (a .list .now) (s .loop .k))
 
 add-k : tie.Need-add-k Inv-loop μ-loop
 add-k c = search needs
@@ -59,6 +63,7 @@ count-stops-spec =
     Inv-loop
     μ-loop
     loop-holds
+    cast-t9
     stop-at-requires
     add-marks
     add-k
