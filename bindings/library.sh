@@ -4,7 +4,7 @@
 # this.
 
 # the number of the record's layout, that of include/giqapsun.h
-layout=2
+layout=3
 
 # broken MESSAGE: prints the line and ends
 broken() {

@@ -1,16 +1,17 @@
 /*
  * Fuzz target over the C boundary. Each input is tried in three ways:
- *   as a file of the old form or of form 2, up to the end that its pairs name, and the rest as outputs of a list to
- *   check;
- *   as a record, byte for byte, with counts and numbers of any size;
- *   as a record brought within the limits, so that every input is also searched, and with two fields at a limit or
- *   past it; both are searched by a calendar of the input's own windows too.
- * An accepted case at prices that the old form can hold is read from a file of that form too.
+ *   as a file of the old form, of form 2 or of form 3, up to the end that its pairs name, and the rest as outputs of a
+ *   list to check;
+ *   as a record, byte for byte, with counts, stages and numbers of any size;
+ *   as a record brought within the limits, so that every input is also searched, half of them from inside a start or a
+ *   stop, and with two fields at a limit or past it; both are searched by a calendar of the input's own windows too.
+ * An accepted case that form 2 or the old form can hold is read from a file of that form too.
  * Of each accepted case pairs of lists are compared too: its best list, the best one at the prices in reverse, near
  * misses and the input's own numbers, at its own prices and at prices that leave no margin, where lists earn the same.
  * Every answer is compared with that of the independent scheduler of tests/oracle; its search is left out on
  * large days, where it takes too long. Whatever the answers have to agree in among themselves is tested too.
- * Any difference aborts. The last lines say how often each outcome of a file, of a pair and of a calendar came up.
+ * Any difference aborts. The last lines say how often each outcome of a file, of a pair and of a calendar came up, and
+ * what searched days open and close inside.
  */
 #include "giqapsun.h"
 #include <stdio.h>
@@ -85,21 +86,40 @@ static int64_t work[MARGIN + GIQAPSUN_WORK + MARGIN], work_before[MARGIN + GIQAP
 static uint16_t outputs[MARGIN + GIQAPSUN_HOURS + MARGIN], outputs_before[MARGIN + GIQAPSUN_HOURS + MARGIN];
 static uint8_t file[MARGIN + GIQAPSUN_FILE_MOST + MARGIN], file_before[MARGIN + GIQAPSUN_FILE_MOST + MARGIN];
 
-/* Files, pairs and calendars by their outcome. */
+/* Files, pairs and calendars by their outcome; days that were found from inside a start or a stop, lists that pass and
+   close inside a stop, and those that break 21 at a stop after the day. */
 static struct {
-    unsigned long old, form_2, files_refused, by_12, by_13;
+    unsigned long old, form_2, form_3, files_refused, by_12, by_13;
     unsigned long refused, neither, alone, profit, tie, identical;
     unsigned long found, by_14, by_15, by_2, by_11, by_others;
+    unsigned long from_start, from_stop, to_stop, too_early;
 } met;
 
 static void print_met(void)
 {
-    fprintf(stderr, "files: old form %lu, form 2 %lu, refused %lu, ", met.old, met.form_2, met.files_refused);
-    fprintf(stderr, "by 12 %lu, by 13 %lu\n", met.by_12, met.by_13);
+    fprintf(stderr, "files: old form %lu, form 2 %lu, form 3 %lu, ", met.old, met.form_2, met.form_3);
+    fprintf(stderr, "refused %lu, by 12 %lu, by 13 %lu\n", met.files_refused, met.by_12, met.by_13);
     fprintf(stderr, "pairs: refused %lu, neither passes %lu, one passes %lu, ", met.refused, met.neither, met.alone);
     fprintf(stderr, "higher profit %lu, tie %lu, identical %lu\n", met.profit, met.tie, met.identical);
     fprintf(stderr, "calendars: found %lu, by 14 %lu, by 15 %lu, ", met.found, met.by_14, met.by_15);
     fprintf(stderr, "by 2 %lu, by 11 %lu, by others %lu\n", met.by_2, met.by_11, met.by_others);
+    fprintf(stderr, "stages: from a start %lu, from a stop %lu, ", met.from_start, met.from_stop);
+    fprintf(stderr, "to a stop %lu, 21 after the day %lu\n", met.to_stop, met.too_early);
+}
+
+/* Whether two records hold the same; bytes between their fields do not count. */
+static int same_case(const struct giqapsun_case *a, const struct giqapsun_case *b)
+{
+    return memcmp(a, b, offsetof(struct giqapsun_case, fall) + sizeof a->fall) == 0 &&
+           memcmp(a->prices, b->prices, sizeof a->prices) == 0 &&
+           memcmp(a->orders, b->orders, sizeof a->orders) == 0 && a->rises == b->rises && a->falls == b->falls &&
+           a->hours == b->hours;
+}
+
+/* The form of a file of five pairs, by its last two bytes. */
+static unsigned form_of(const uint8_t *bytes, size_t n)
+{
+    return bytes[n - 2] + 256u * bytes[n - 1];
 }
 
 /* giqapsun_read, compared. */
@@ -107,9 +127,11 @@ static struct giqapsun_reading read_in(const uint8_t *bytes, size_t n)
 {
     struct giqapsun_reading reading = giqapsun_read(bytes, n), expected = oracle_read(bytes, n);
     HOLDS(reading.number == expected.number);
-    HOLDS(memcmp(&reading.c, &expected.c, sizeof reading.c) == 0);
-    met.old += reading.number == 0 && bytes[0] == 16;
-    met.form_2 += reading.number == 0 && bytes[0] == 20;
+    HOLDS(same_case(&reading.c, &expected.c));
+    int is_read = reading.number == 0;
+    met.old += is_read && bytes[0] == 16;
+    met.form_2 += is_read && bytes[0] == 20 && form_of(bytes, n) == 2;
+    met.form_3 += is_read && bytes[0] == 20 && form_of(bytes, n) == 3;
     met.files_refused += reading.number != 0;
     met.by_12 += reading.number == 12;
     met.by_13 += reading.number == 13;
@@ -232,6 +254,20 @@ static struct giqapsun_plan by_calendar_as_expected(struct giqapsun_case c, cons
     return plan;
 }
 
+/* Whether a rule can be broken at its hour: in the day, or 21 at a stop after it. */
+static int is_hour_of(const struct giqapsun_case *c, struct giqapsun_verdict verdict)
+{
+    return verdict.hour <= c->hours || (verdict.rule == 21 && verdict.hour < c->hours + c->falls);
+}
+
+/* Whether the last hour of a list that passes and ends below the minimum output is one of a start. */
+static int is_starting(const struct giqapsun_case *c, const uint16_t *list)
+{
+    size_t last = c->hours - 1;
+    uint16_t before = last == 0 ? c->initial : list[last - 1];
+    return before < list[last];
+}
+
 /* giqapsun_check, with the list compared and the answer's form tested. */
 static struct giqapsun_verdict checked(struct giqapsun_case c, const uint16_t *list, size_t n)
 {
@@ -245,9 +281,12 @@ static struct giqapsun_verdict checked(struct giqapsun_case c, const uint16_t *l
     if (verdict.number != 0)
         HOLDS(verdict.hour == 0 && verdict.rule == 0 && verdict.profit == 0);
     else if (verdict.rule != 0)
-        HOLDS(verdict.hour <= c.hours && verdict.profit == 0);
+        HOLDS(verdict.profit == 0 && is_hour_of(&c, verdict));
     else
         HOLDS(verdict.hour == 0);
+    met.too_early += verdict.hour > c.hours;
+    met.to_stop += verdict.number == 0 && verdict.rule == 0 && list[n - 1] > 0 && list[n - 1] < c.minimum &&
+                   !is_starting(&c, list);
     return verdict;
 }
 
@@ -306,6 +345,19 @@ static struct giqapsun_case without_margin(struct giqapsun_case c, struct bytes 
     return c;
 }
 
+/* Changes an output of a list, that of any hour or of the last, to any up to the capacity or to one of a trajectory. */
+static void change(const struct giqapsun_case *c, uint16_t *list, struct bytes *rest)
+{
+    uint16_t *output = list + within(rest, 1, (unsigned)c->hours) - 1;
+    if (take8(rest) % 2 == 0)
+        output = list + c->hours - 1;
+    unsigned way = take8(rest) % 3;
+    if (way == 0)
+        *output = within(rest, 0, c->capacity);
+    else
+        *output = way == 1 ? c->rise[take8(rest) % c->rises] : c->fall[take8(rest) % c->falls];
+}
+
 /* Fills the best list at the prices in reverse: it keeps the rules, in which no price stands. */
 static void best_in_reverse(struct giqapsun_case c, uint16_t *list)
 {
@@ -323,7 +375,7 @@ static void try_pairs(struct giqapsun_case c, const uint16_t *best, const uint16
     if (found)
         best_in_reverse(c, other);
     memcpy(near, take8(rest) % 2 == 0 ? best : other, sizeof near);
-    near[within(rest, 1, (unsigned)c.hours) - 1] = within(rest, 0, c.capacity);
+    change(&c, near, rest);
     struct giqapsun_case days[2] = {c, without_margin(c, rest)};
     for (int day = 0; day < 2; day++) {
         try_pair(days[day], best, other);
@@ -365,47 +417,82 @@ static uint8_t *put16(uint8_t *at, size_t number)
     return at + 2;
 }
 
-/* Makes the file of the old form from that of form 2, and gives its length; 0 if a price has no room in it. */
-static size_t old_file(const struct giqapsun_case *c, const uint8_t *bytes, uint8_t *old)
+/* Puts the pairs of sections with these lengths, and gives the place after them. */
+static uint8_t *put_pairs(uint8_t *at, const size_t *lengths, size_t pairs)
 {
-    size_t lengths[4] = {32, 2 * c->rises, 2 * c->falls, 3 * c->hours}, offset = 16;
-    uint8_t *at = old;
-    for (int i = 0; i < 4; i++) {
+    size_t offset = 4 * pairs;
+    for (size_t i = 0; i < pairs; i++) {
         at = put16(put16(at, offset), lengths[i]);
         offset += lengths[i];
     }
-    size_t before_hours = lengths[0] + lengths[1] + lengths[2];
-    memcpy(at, bytes + 20, before_hours);
-    at += before_hours;
+    return at;
+}
+
+/* Puts the unit, without its stages, and the trajectories of a file of form 3, and gives the place after them. */
+static uint8_t *put_unit(uint8_t *at, const struct giqapsun_case *c, const uint8_t *bytes)
+{
+    size_t trajectories = 2 * (c->rises + c->falls);
+    memcpy(at, bytes + 20, 32);
+    memcpy(at + 32, bytes + 54, trajectories);
+    return at + 32 + trajectories;
+}
+
+/* Makes the file of form 2 from that of form 3, and gives its length; 0 if a stage has no room in it. */
+static size_t file_2(const struct giqapsun_case *c, const uint8_t *bytes, uint8_t *older)
+{
+    size_t lengths[5] = {32, 2 * c->rises, 2 * c->falls, 5 * c->hours, 2};
+    if (c->upstage != 0 || c->downstage != 0)
+        return 0;
+    uint8_t *at = put_unit(put_pairs(older, lengths, 5), c, bytes);
+    memcpy(at, bytes + 54 + lengths[1] + lengths[2], lengths[3]);
+    return (size_t)(put16(at + lengths[3], 2) - older);
+}
+
+/* Makes the file of the old form from that of form 3, and gives its length; 0 if a stage or a price has no room in
+   it. */
+static size_t old_file(const struct giqapsun_case *c, const uint8_t *bytes, uint8_t *old)
+{
+    size_t lengths[4] = {32, 2 * c->rises, 2 * c->falls, 3 * c->hours};
+    if (c->upstage != 0 || c->downstage != 0)
+        return 0;
+    uint8_t *at = put_unit(put_pairs(old, lengths, 4), c, bytes);
     for (size_t k = 0; k < c->hours; k++) {
         if (c->prices[k] < 0 || c->prices[k] > UINT16_MAX)
             return 0;
         at = put16(at, (size_t)c->prices[k]);
         *at++ = c->orders[k];
     }
-    return offset;
+    return (size_t)(at - old);
 }
 
-/* Reads the file of the old form: the same record as that of form 2, and refused with a byte less or more. */
-static void try_old_form(struct giqapsun_case c, const uint8_t *bytes)
+/* Reads a file of an older form, if there is one: the same record as that of form 3, and refused with a byte less or
+   more. */
+static void try_older(struct giqapsun_case c, const uint8_t *older, size_t n)
 {
-    uint8_t old[GIQAPSUN_FILE_MOST + 1] = {0};
-    size_t n = old_file(&c, bytes, old);
     if (n == 0)
         return;
-    struct giqapsun_reading reading = read_in(old, n);
-    HOLDS(reading.number == 0 && memcmp(&reading.c, &c, sizeof c) == 0);
-    HOLDS(read_in(old, n - 1).number == 1 && read_in(old, n + 1).number == 1);
+    struct giqapsun_reading reading = read_in(older, n);
+    HOLDS(reading.number == 0 && same_case(&reading.c, &c));
+    HOLDS(read_in(older, n - 1).number == 1 && read_in(older, n + 1).number == 1);
 }
 
-/* Reads the file of form 2 with another form number, with a unit of 34 bytes besides, and as a file of four pairs:
-   refused. */
+/* Reads the files of both older forms. */
+static void try_older_forms(struct giqapsun_case c, const uint8_t *bytes)
+{
+    uint8_t older[GIQAPSUN_FILE_MOST + 1] = {0};
+    try_older(c, older, old_file(&c, bytes, older));
+    try_older(c, older, file_2(&c, bytes, older));
+}
+
+/* Reads the file of form 3 with another form number, with a unit of 36 bytes besides, and as a file of four pairs:
+   refused. As form 2 it is refused by its unit of 34 bytes. */
 static void try_other_form(const uint8_t *bytes, size_t n, struct bytes *rest)
 {
     uint8_t other[GIQAPSUN_FILE_MOST];
     memcpy(other, bytes, n);
-    put16(other + n - 2, take16(rest));
-    HOLDS(read_in(other, n).number == (memcmp(other + n - 2, bytes + n - 2, 2) == 0 ? 0 : 12));
+    put16(other + n - 2, take8(rest) % 4 == 0 ? take8(rest) % 8 : take16(rest));
+    unsigned form = form_of(other, n);
+    HOLDS(read_in(other, n).number == (form == 3 ? 0u : form == 2 ? 2u : 12u));
     other[2] += 2;
     other[4] += 2;
     other[6] -= 2;
@@ -414,7 +501,7 @@ static void try_other_form(const uint8_t *bytes, size_t n, struct bytes *rest)
     HOLDS(read_in(other, n).number == 1);
 }
 
-/* An accepted case and the bytes of its file of form 2. */
+/* An accepted case and the bytes of its file of form 3. */
 static void try_accepted(struct giqapsun_case c, const uint8_t *bytes, size_t n, struct bytes *rest)
 {
     struct giqapsun_written w = written_in(c, GIQAPSUN_FILE_MOST);
@@ -422,13 +509,15 @@ static void try_accepted(struct giqapsun_case c, const uint8_t *bytes, size_t n,
     w = written_in(c, n);
     HOLDS(w.number == 0 && w.length == n);
     HOLDS(written_in(c, n - 1).number == 10);
-    try_old_form(c, bytes);
+    try_older_forms(c, bytes);
     try_other_form(bytes, n, rest);
     HOLDS(best_in(c, GIQAPSUN_WORK - 1, GIQAPSUN_HOURS).number == 10);
     HOLDS(best_in(c, GIQAPSUN_WORK, c.hours - 1).number == 10);
 
     struct giqapsun_plan plan = best_as_expected(c, GIQAPSUN_WORK, c.hours);
     HOLDS(plan.number == 0 || plan.number == 11);
+    met.from_start += plan.number == 0 && c.upstage > 0;
+    met.from_stop += plan.number == 0 && c.downstage > 0;
     uint16_t best[GIQAPSUN_HOURS + 1] = {0}, list[GIQAPSUN_HOURS + 1] = {0};
     if (plan.number == 0) {
         memcpy(best, outputs + MARGIN, c.hours * sizeof *best);
@@ -442,9 +531,9 @@ static void try_accepted(struct giqapsun_case c, const uint8_t *bytes, size_t n,
     /* lists that differ from the best one in one hour and in two, and a list of the input's own numbers */
     for (int turn = 0; turn < 8; turn++) {
         memcpy(list, best, sizeof best);
-        list[within(rest, 1, (unsigned)c.hours) - 1] = within(rest, 0, c.capacity);
+        change(&c, list, rest);
         not_better(c, list, plan, best);
-        list[within(rest, 1, (unsigned)c.hours) - 1] = within(rest, 0, c.capacity);
+        change(&c, list, rest);
         not_better(c, list, plan, best);
     }
     for (size_t k = 0; k <= c.hours; k++)
@@ -466,24 +555,26 @@ static int refuses_records(uint32_t number)
     return (number >= 2 && number <= 8) || number == 13;
 }
 
-/* The bytes of a file of either form; one of the old form is tried further as its record is written. */
+/* The bytes of a file of any form; one of an older form is tried further as its record is written. */
 static void try_file(const uint8_t *bytes, size_t n, struct bytes *rest)
 {
     static const struct giqapsun_case zero;
     struct giqapsun_reading reading = read_in(bytes, n);
     if (reading.number != 0) {
         HOLDS(refuses_files(reading.number));
-        HOLDS(memcmp(&reading.c, &zero, sizeof zero) == 0);
+        HOLDS(same_case(&reading.c, &zero));
         return;
     }
-    uint8_t again[GIQAPSUN_FILE_MOST], old[GIQAPSUN_FILE_MOST];
+    uint8_t again[GIQAPSUN_FILE_MOST], older[GIQAPSUN_FILE_MOST];
     struct giqapsun_written w = written_in(reading.c, GIQAPSUN_FILE_MOST);
     HOLDS(w.number == 0);
     memcpy(again, file + MARGIN, w.length);
-    if (bytes[0] == 20)
-        HOLDS(w.length == n && memcmp(again, bytes, n) == 0);
+    if (bytes[0] == 16)
+        HOLDS(old_file(&reading.c, again, older) == n && memcmp(older, bytes, n) == 0);
+    else if (form_of(bytes, n) == 2)
+        HOLDS(file_2(&reading.c, again, older) == n && memcmp(older, bytes, n) == 0);
     else
-        HOLDS(old_file(&reading.c, again, old) == n && memcmp(old, bytes, n) == 0);
+        HOLDS(w.length == n && memcmp(again, bytes, n) == 0);
     try_accepted(reading.c, again, w.length, rest);
 }
 
@@ -527,6 +618,27 @@ static int32_t price(struct bytes *bytes, int way, unsigned spread)
     return within(bytes, 0, spread) - (way == 1 ? (int32_t)spread / 2 : 0);
 }
 
+/* Opens the day: off-line, on-line, or inside a start or a stop where the unit has stages for it. */
+static void open_day(struct giqapsun_case *c, struct bytes *bytes)
+{
+    unsigned way = take8(bytes) % 4, least = 1, most = take8(bytes) % 4 == 0 ? 10000 : 16;
+    c->upstage = c->downstage = 0;
+    c->initial = 0;
+    if (way == 2 && c->rises > 1) {
+        c->upstage = (uint8_t)within(bytes, 1, (unsigned)c->rises - 1);
+        c->initial = c->rise[c->upstage - 1];
+        least = most = c->upstage;
+    } else if (way == 3 && c->falls > 1) {
+        c->downstage = (uint8_t)within(bytes, 2, (unsigned)c->falls);
+        c->initial = c->fall[c->downstage - 1];
+        least = (unsigned)c->rises + c->downstage - 1;
+    } else if (way > 0) {
+        c->initial = within(bytes, c->minimum, c->capacity);
+        least = (unsigned)c->rises;
+    }
+    c->elapsed = within(bytes, least, most);
+}
+
 /* A record within the limits. */
 static struct giqapsun_case within_limits(struct bytes *bytes)
 {
@@ -552,8 +664,7 @@ static struct giqapsun_case within_limits(struct bytes *bytes)
     c.fall[0] = c.minimum;
     for (size_t i = 1; i < c.falls; i++)
         c.fall[i] = within(bytes, (unsigned)(c.falls - i), c.fall[i - 1] - 1u);
-    c.initial = take8(bytes) % 2 == 0 ? 0 : within(bytes, c.minimum, c.capacity);
-    c.elapsed = within(bytes, c.initial == 0 ? 1 : (unsigned)c.rises, take8(bytes) % 4 == 0 ? 10000 : 12);
+    open_day(&c, bytes);
     c.hours = take8(bytes) % 4 == 0 ? GIQAPSUN_HOURS : within(bytes, 1, GIQAPSUN_HOURS);
     int orders = take8(bytes) % 2 == 0;
     unsigned spread = take8(bytes) % 2 == 0 ? 65535 : 200;
@@ -566,14 +677,15 @@ static struct giqapsun_case within_limits(struct bytes *bytes)
     return c;
 }
 
-/* Brings a field of a record to a limit or past it: a price of the day or past it, an order, a cost. */
+/* Brings a field of a record to a limit or past it: a price of the day or past it, an order, a stage, h, p(0) or a
+   cost. */
 static void bring_to_limit(struct giqapsun_case *c, struct bytes *bytes)
 {
     static const int32_t prices[6] = {-10000001, -10000000, 10000000, 10000001, INT32_MIN, INT32_MAX};
     size_t k = within(bytes, 1, (unsigned)c->hours) - 1u;
     int32_t *costs[4] = {&c->variable, &c->fixed, &c->startcost, &c->stopcost};
     size_t cost = take8(bytes) % 4;
-    switch (take8(bytes) % 4) {
+    switch (take8(bytes) % 8) {
     case 0:
         c->prices[k] = prices[take8(bytes) % 6];
         break;
@@ -582,6 +694,18 @@ static void bring_to_limit(struct giqapsun_case *c, struct bytes *bytes)
         break;
     case 2:
         c->orders[k] = take8(bytes) % 2 == 0 ? 3 : 255;
+        break;
+    case 3:
+        c->upstage = (uint8_t)within(bytes, 0, (unsigned)c->rises + 1);
+        break;
+    case 4:
+        c->downstage = (uint8_t)within(bytes, 0, (unsigned)c->falls + 1);
+        break;
+    case 5:
+        c->elapsed = (uint16_t)(c->elapsed + within(bytes, 0, 2) - 1);
+        break;
+    case 6:
+        c->initial = take8(bytes) % 2 == 0 ? c->rise[take8(bytes) % c->rises] : c->fall[take8(bytes) % c->falls];
         break;
     default:
         *costs[cost] = take8(bytes) % 2 == 0 ? -1 : (cost == 0 ? 1000001 : 100000001);

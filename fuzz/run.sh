@@ -1,6 +1,6 @@
 #!/usr/bin/env bash
 # fuzz/run.sh SECONDS: builds the fuzz target against libgiqapsun.a and the independent scheduler of tests/oracle, and
-# runs it for so long, beginning with the files of cases/, those of the old form too. Installs clang and its fuzzer
+# runs it for so long, beginning with the files of cases/, those of the older forms too. Installs clang and its fuzzer
 # library from Debian's packages if they are missing. The library is that in the folder GIQAPSUN_LIB_DIR, or else in
 # target/staticlib. Inputs that were kept, and one that made a difference, are in target/fuzz. Not in the gate.
 set -eu
@@ -29,8 +29,9 @@ quietly fuzz-target clang -std=c99 -g -O1 -Wall -Wextra -Werror -fsanitize=fuzze
     -fno-sanitize-recover=all -Iinclude fuzz/fuzz.c "$GIQAPSUN_LIB_DIR/libgiqapsun.a" \
     "$folder/oracle/release/liboracle.a" -lpthread -ldl -lm -o "$folder/fuzz"
 cp cases/*.case "$folder/seeds/"
-for old in cases/old/*.case; do
-    cp "$old" "$folder/seeds/old-${old##*/}"
+for older in cases/old/*.case cases/old/form2/*.case; do
+    name=${older#cases/old/}
+    cp "$older" "$folder/seeds/old-${name//\//-}"
 done
 
 # a run starts from the seeds and from what earlier runs kept
@@ -47,4 +48,4 @@ if [ $status -ne 0 ]; then
 fi
 executions=$(sed -n 's/^stat::number_of_executed_units: *//p' "$folder/log")
 echo "fuzz: $executions executions in $seconds seconds, no difference"
-grep -E '^(files|pairs|calendars): ' "$folder/log"
+grep -E '^(files|pairs|calendars|stages): ' "$folder/log"

@@ -9,15 +9,25 @@
  * Units
  *
  *   output    megawatts (MW), whole; p(k) is the output at the end of hour k, p(0) the one before hour 1
- *   hour      1 to T; hour 0 is the one before the day
+ *   hour      1 to T; hour 0 is the one before the day, hours above T come after it
  *   price     mills (thousandths of a dollar) per MWh, from GIQAPSUN_PRICE_LEAST to GIQAPSUN_PRICE_MOST
  *   cost      F mills per MWh, A mills per on-line hour, B per start, C per stop; none is below 0
  *   profit    half-mills: 2,000 to the dollar, exact, may be negative
  *
- * Case files: giqapsun_read takes two forms. Form 2 has five sections, of which the last holds the form
- * number, and signed 32-bit prices; the old form has four and 16-bit prices, 0 to 65,535. giqapsun_write
- * writes form 2. So a file of form 2 that is read and written again is the same bytes, one of the old form
- * the same case.
+ * Case files: giqapsun_read takes three forms. giqapsun_write writes form 3. So a file of form 3 that is read
+ * and written again is the same bytes, one of another form the same case.
+ *
+ *   form  sections                          unit      prices
+ *   3     five, the last holds the number   34 bytes  signed 32-bit
+ *   2     five, the last holds the number   32 bytes  signed 32-bit; both stages are read as 0
+ *   old   four, no number                   32 bytes  16-bit, 0 to 65,535; both stages are read as 0
+ *
+ * Days back to back: a day may open and close inside a start-up or a shut-down. A start-up stage i means that
+ * p(0) is PU(i), so the start stands at hour 1 - i and hour 1 goes on with PU(i + 1). A shut-down stage i means
+ * that p(0) is PD(i), so hour 1 goes on with PD(i + 1), or off-line after PD(DD). A list closes in a shut-down
+ * exactly when p(T) is PD(i), i from 2 to DD, and hour T lies in no start-up, whose last hour is that of PU(UD).
+ * Then there is a stop after the day, at hour T + DD + 1 - i, and the rules at hours 0 to T see it. C belongs
+ * to the day that holds the stop, and B to the day that holds the start.
  *
  * Refusals: the `number` of an answer. 0 is no refusal. The conditions are tested in the order of this
  * list, and the first that applies is given. giqapsun_read tests 1 to 8, 12 and 13; giqapsun_write 2 to 8,
@@ -30,13 +40,16 @@
  *   1   file under 16 bytes, or pairs not as laid down
  *   2   a section length, or a count in a record, not as laid down; by calendar, T not the day's number of
  *       hours
- *   12  form number not 2
+ *   12  form number neither 2 nor 3
  *   3   minimum output 0 or above capacity, or capacity above 400
  *   4   RU or RD outside 1 to 400, or a minimum time outside 1 to 8
  *   5   F not from 0 to 1,000,000, or A, B or C not from 0 to 100,000,000
  *   6   PU not strictly rising from 1 or more to the minimum output, or PD not strictly falling from the
  *       minimum output to 1 or more
- *   7   h outside 1 to 10,000; p(0) neither 0 nor from minimum to capacity; p(0) above 0 with h below UD
+ *   7   h outside 1 to 10,000; both stages set; a start-up stage not from 1 to UD - 1, or set with p(0) not
+ *       PU(stage) or h not the stage; a shut-down stage not from 2 to DD, or set with p(0) not PD(stage) or h
+ *       below UD + stage - 1; with no stage set, p(0) neither 0 nor from minimum to capacity, or p(0) above 0
+ *       with h below UD
  *   8   an order byte above 2
  *   13  a price outside -10,000,000 to 10,000,000
  *   9   checked list not of T outputs
@@ -61,8 +74,9 @@
  *   22  minimum down time
  *   23  hour order
  *
- * No verdict names 7, 8 or 12: 7 holds of every list, what breaks 8 breaks 10 at an earlier hour, and 12
- * says what 11 says.
+ * No verdict names 7 or 12: 7 holds of every list, and 12 says what 11 says. 8 is named only where a list
+ * breaks off the start-up that its day opens in and the minimum output is the capacity; what breaks it elsewhere
+ * breaks 3 or 10 before. 21 alone may be broken above T, at a stop after the day.
  *
  * Lent memory: every pointer is valid for its length, aligned for its type and not null, also where the
  * length is 0; lent slices do not overlap, but the two lists of giqapsun_better, and the two of windows of
@@ -116,7 +130,7 @@ extern "C" {
 #endif
 
 /* Version of the product. */
-#define GIQAPSUN_VERSION "2.1.1"
+#define GIQAPSUN_VERSION "3.0.0"
 
 /*
  * Number of the layout: it changes with every change of a struct below, and each function of the library
@@ -124,7 +138,7 @@ extern "C" {
  * A call that a version adds, and a struct with it, leaves the number: of two versions of one layout the
  * later has every call of the earlier.
  */
-#define GIQAPSUN_LAYOUT 2
+#define GIQAPSUN_LAYOUT 3
 
 #define GIQAPSUN_JOINED(name, layout) name##_##layout
 #define GIQAPSUN_NAMED(name, layout) GIQAPSUN_JOINED(name, layout)
@@ -151,7 +165,7 @@ extern "C" {
 #define GIQAPSUN_STACK_CALENDAR 49152
 
 /* Bytes of the longest file: pairs, unit, two trajectories, hours, form number. */
-#define GIQAPSUN_FILE_MOST (20 + 32 + 2 * GIQAPSUN_STAGES * 2 + 5 * GIQAPSUN_HOURS + 2)
+#define GIQAPSUN_FILE_MOST (20 + 34 + 2 * GIQAPSUN_STAGES * 2 + 5 * GIQAPSUN_HOURS + 2)
 
 /* The lowest and the highest price, mills per MWh. */
 #define GIQAPSUN_PRICE_LEAST (-10000000)
@@ -181,6 +195,8 @@ struct giqapsun_case {
     int32_t stopcost;   /* C, mills per stop */
     uint16_t initial;   /* p(0), MW */
     uint16_t elapsed;   /* h: hours on-line (p(0) above 0) or off-line (p(0) 0) before hour 1 */
+    uint8_t upstage;    /* start-up stage: 0, or i below UD where the day opens on PU(i); then h is i */
+    uint8_t downstage;  /* shut-down stage: 0, or i from 2 to DD where the day opens on PD(i) */
     uint16_t rise[GIQAPSUN_STAGES]; /* PU, MW */
     uint16_t fall[GIQAPSUN_STAGES]; /* PD, MW */
     int32_t prices[GIQAPSUN_HOURS]; /* prices[k - 1] is that of hour k, mills per MWh, below 0 too */
@@ -205,7 +221,8 @@ struct giqapsun_written {
 /*
  * Number 0 and rule 0: the list passes and earns `profit`; hour 0. Number 0 and another rule: the list
  * breaks `rule` at `hour`, the earliest hour (0 included) and there the lowest rule; profit 0. Or a refusal,
- * and hour, rule and profit 0. So the rule tells whether a list passes; the hour alone does not.
+ * and hour, rule and profit 0. So the rule tells whether a list passes; the hour alone does not. An hour above
+ * T, at most T + DD - 1, is that of the stop after the day, which comes before the minimum up time is over.
  */
 struct giqapsun_verdict {
     uint32_t number;
@@ -230,11 +247,11 @@ struct giqapsun_choice {
     int64_t profit;
 };
 
-/* Reads the n bytes of a case file, of form 2 or of the old form. Changes no lent memory. */
+/* Reads the n bytes of a case file, of form 3, of form 2 or of the old form. Changes no lent memory. */
 struct giqapsun_reading giqapsun_read(const uint8_t *file, size_t n);
 
 /*
- * Writes the file of a case, of form 2, into n lent bytes; GIQAPSUN_FILE_MOST are enough for any case.
+ * Writes the file of a case, of form 3, into n lent bytes; GIQAPSUN_FILE_MOST are enough for any case.
  * Changes the first `length` bytes; on a refusal, none.
  */
 struct giqapsun_written giqapsun_write(struct giqapsun_case c, uint8_t *bytes, size_t n);

@@ -1,5 +1,6 @@
-//! The programmes find the same lists as the library on random days, half of them with prices below zero; none takes
-//! more row steps than the most. The reader gives the same number and record as the library for every file.
+//! The programmes find the same lists as the library on random days, half of them with prices below zero, and some that
+//! open or close inside a sequence; none takes more row steps than the most. The reader gives the same number and
+//! record as the library for every file.
 
 use crate::blocks::Blocks;
 use crate::dice::Dice;
@@ -15,7 +16,7 @@ type Within = fn(&Case, &mut [i64], &mut [u16]) -> Option<i64>;
 fn random_days() {
     let mut dice = Dice::new();
     let mut work = vec![0i64; WORK];
-    let (mut none, most) = (0, steps::most());
+    let (mut none, mut closed, most) = (0, 0, steps::most());
     for round in 0..20_000 {
         let case = dice.day();
         let mut outputs = vec![0; case.hours];
@@ -23,6 +24,7 @@ fn random_days() {
         assert!(plan.number == 0 || plan.number == 11, "{round}: refused {}", plan.number);
         let found = (plan.number == 0).then_some((plan.profit, outputs));
         none += usize::from(found.is_none());
+        closed += usize::from(found.as_ref().is_some_and(|(_, list)| is_closed_in_stop(&case, list)));
         for (name, best) in [("memory", memory::best::<Queue> as Within), ("tuned", memory::best::<Blocks>)] {
             let mut list = vec![0; case.hours];
             let day = best(&case, &mut work, &mut list).map(|profit| (profit, list));
@@ -34,6 +36,27 @@ fn random_days() {
         assert!(day == found, "{round}: plain {day:?} and not {found:?}: {case:?}");
     }
     assert!(none > 100, "{none} days without a list");
+    assert!(closed > 100, "{closed} days that close inside a stop");
+}
+
+/// Whether a list that keeps the rules ends on its way down below the minimum output.
+fn is_closed_in_stop(case: &Case, list: &[u16]) -> bool {
+    let before = list.iter().rev().nth(1).unwrap_or(&case.initial);
+    list.last().is_some_and(|last| (1..case.minimum).contains(last) && last < before)
+}
+
+/// The two days that are timed for it open inside a start and close inside a stop.
+#[test]
+fn timed_sequences() {
+    let mut work = vec![0i64; WORK];
+    let mut counts = (0, 0);
+    for (_, case) in days::all() {
+        let mut outputs = vec![0; case.hours];
+        assert_eq!(NOW.best(&case, &mut work, &mut outputs).number, 0);
+        counts.0 += usize::from(case.upstage > 0);
+        counts.1 += usize::from(is_closed_in_stop(&case, &outputs));
+    }
+    assert!(counts.0 == 1 && counts.1 >= 1, "{counts:?}");
 }
 
 #[test]
@@ -70,7 +93,8 @@ fn random_files() {
 /// Each section of a day in every length up to 300 bytes.
 #[test]
 fn every_length() {
-    for sections in [files::old(&days::source(24)), files::two(&days::source(24))] {
+    for form in [files::old, files::two, files::three] {
+        let sections = form(&days::source(24));
         for (i, length) in (0..sections.len()).flat_map(|i| (0..=300).map(move |length| (i, length))) {
             let mut sections = sections.clone();
             sections[i].resize(length, 0);
@@ -83,5 +107,5 @@ fn every_length() {
 #[test]
 fn timed_files() {
     let numbers: Vec<u32> = files::all().iter().map(|(_, file)| read(file)).collect();
-    assert_eq!(numbers, [0, 0, 0, 0, 2, 2, 1]);
+    assert_eq!(numbers, [0, 0, 0, 0, 0, 0, 2, 2, 1]);
 }

@@ -66,6 +66,8 @@ fn wide(ramp: u16, hours: usize) -> Case {
         stopcost: 56_000,
         initial: 0,
         elapsed: 8,
+        upstage: 0,
+        downstage: 0,
         rise: [1, 0, 0, 0, 0, 0, 0, 0],
         fall: [1, 0, 0, 0, 0, 0, 0, 0],
         prices,
@@ -110,6 +112,31 @@ fn stops() -> Case {
     Case { mindown: 1, initial: 1, elapsed: 1, ..case }
 }
 
+/// 393 outputs above trajectories of eight entries each, ramps 100, random prices.
+fn long_sequences() -> Case {
+    Case {
+        minimum: 8,
+        rise: [1, 2, 3, 4, 5, 6, 7, 8],
+        fall: [8, 7, 6, 5, 4, 3, 2, 1],
+        rises: 8,
+        falls: 8,
+        ..wide(100, 48)
+    }
+}
+
+/// The same, from the first entry of the start-up.
+fn in_start() -> Case {
+    Case { initial: 1, elapsed: 1, upstage: 1, ..long_sequences() }
+}
+
+/// The same, with prices in the last hours that bring the unit down: it closes inside the shut-down.
+fn to_stop() -> Case {
+    let mut case = long_sequences();
+    case.prices[36..44].fill(60_000);
+    case.prices[44..].fill(0);
+    case
+}
+
 /// Every day with its name.
 pub fn all() -> Vec<(&'static str, Case)> {
     vec![
@@ -121,5 +148,7 @@ pub fn all() -> Vec<(&'static str, Case)> {
         ("(n) 400 outputs, prices below zero, 48 h", below_zero()),
         ("(g) 400 outputs, the most starts, 48 h", wave()),
         ("(w) 400 outputs, the most row steps, 48 h", stops()),
+        ("(s) 393 outputs, from a start-up, 48 h", in_start()),
+        ("(t) 393 outputs, to a shut-down, 48 h", to_stop()),
     ]
 }

@@ -77,6 +77,9 @@ impl Dice {
         for i in 0..falls {
             case.fall[i] = fall[falls - 1 - i];
         }
+        if self.roll(0, 2) == 0 {
+            self.open_inside(&mut case);
+        }
         let orders = [1, 3, 30, 300][self.roll(0, 3) as usize];
         let below = self.roll(0, 1) == 1;
         for k in 0..hours {
@@ -85,6 +88,20 @@ impl Dice {
             case.orders[k] = if order == 1 || order == 2 { order as u8 } else { 0 };
         }
         case
+    }
+
+    /// Opens a day inside a start-up or inside a shut-down, if it has entries for it.
+    fn open_inside(&mut self, case: &mut Case) {
+        if self.roll(0, 1) == 0 && case.rises > 1 {
+            let stage = self.roll(1, case.rises as u16 - 1);
+            (case.upstage, case.elapsed) = (stage as u8, stage);
+            case.initial = case.rise[usize::from(stage) - 1];
+        } else if case.falls > 1 {
+            let stage = self.roll(2, case.falls as u16);
+            case.downstage = stage as u8;
+            case.initial = case.fall[usize::from(stage) - 1];
+            case.elapsed = self.roll(case.rises as u16 + stage - 1, 16);
+        }
     }
 
     /// One of several.
@@ -120,10 +137,10 @@ impl Dice {
         }
     }
 
-    /// The file of a day in either form, whole or damaged.
+    /// The file of a day in any form, whole or damaged.
     pub fn file(&mut self) -> Vec<u8> {
         let case = self.day();
-        let mut sections = self.pick(&[files::old, files::two])(&case);
+        let mut sections = self.pick(&[files::old, files::two, files::three])(&case);
         for _ in 0..self.roll(0, 2) {
             self.change(&mut sections);
         }

@@ -8,7 +8,7 @@ fn words(numbers: &[u16]) -> Vec<u8> {
     numbers.iter().flat_map(|number| number.to_le_bytes()).collect()
 }
 
-/// The sections that both forms have: the unit and its trajectories.
+/// The sections that every form has: the unit without stages, and its trajectories.
 fn unit(case: &Case) -> [Vec<u8>; 3] {
     let first = [case.capacity, case.minimum, case.rampup, case.rampdown, case.minup, case.mindown];
     let costs = [case.variable, case.fixed, case.startcost, case.stopcost].map(i32::to_le_bytes);
@@ -32,6 +32,14 @@ pub fn old(case: &Case) -> Vec<Vec<u8>> {
 pub fn two(case: &Case) -> Vec<Vec<u8>> {
     let [unit, rise, fall] = unit(case);
     vec![unit, rise, fall, hours(case, 4), words(&[2])]
+}
+
+/// The sections of form 3, whose unit ends with the stages.
+pub fn three(case: &Case) -> Vec<Vec<u8>> {
+    let mut sections = two(case);
+    sections[0].extend([case.upstage, case.downstage]);
+    sections[4] = words(&[3]);
+    sections
 }
 
 /// The file of sections: pairs of offset and length, then the sections. Both numbers are cut to 16 bits.
@@ -63,12 +71,14 @@ fn cut(sections: &[Vec<u8>]) -> Vec<u8> {
 pub fn all() -> Vec<(&'static str, Vec<u8>)> {
     let (day, twice) = (days::source(24), days::source(48));
     vec![
+        ("the source's day, form 3, 24 h", joined(&three(&day))),
         ("the source's day, form 2, 24 h", joined(&two(&day))),
         ("the source's day, old form, 24 h", joined(&old(&day))),
+        ("the source's day twice, form 3, 48 h", joined(&three(&twice))),
         ("the source's day twice, form 2, 48 h", joined(&two(&twice))),
         ("the source's day twice, old form, 48 h", joined(&old(&twice))),
-        ("hours of 65,471 bytes, form 2", long(two(&day), 65_471)),
+        ("hours of 65,469 bytes, form 3", long(three(&day), 65_469)),
         ("hours of 65,535 bytes, old form", long(old(&day), 65_535)),
-        ("cut by one byte, form 2, 24 h", cut(&two(&day))),
+        ("cut by one byte, form 3, 24 h", cut(&three(&day))),
     ]
 }

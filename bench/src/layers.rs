@@ -35,11 +35,9 @@ pub struct Layers<'a, W> {
 }
 
 impl Layer {
-    /// The end of the day: no day ends inside a shut-down.
+    /// The end of the day: it may end inside a start-up and inside a shut-down.
     fn end() -> Layer {
-        let mut layer = Layer { row: [0; OUTPUTS], side: [0; SIDE] };
-        layer.side[FALL..].fill(NONE);
-        layer
+        Layer { row: [0; OUTPUTS], side: [0; SIDE] }
     }
 }
 

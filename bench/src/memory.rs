@@ -81,7 +81,7 @@ impl<W: Window> Search<'_, W> {
 
     /// The best list, into the outputs, and its profit; none where no list keeps every rule.
     fn plan(&mut self, outputs: &mut [u16]) -> Option<i64> {
-        let mut state = self.layers.unit.opening();
+        let mut state = self.layers.unit.opening()?;
         let (profit, first) = self.choice(0, state);
         if profit < NONE / 2 {
             return None;

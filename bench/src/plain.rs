@@ -17,12 +17,12 @@ struct Layer {
 }
 
 impl Layer {
-    /// The worth at the end of the day: no day ends inside a shut-down.
+    /// The worth at the end of the day: it may end inside a start-up and inside a shut-down.
     fn end(unit: &Unit) -> Layer {
         Layer {
             off: vec![(0, 0); unit.rest + 1],
             rise: vec![(0, 0); unit.rises],
-            fall: vec![(NONE, 0); unit.falls + 1],
+            fall: vec![(0, 0); unit.falls + 1],
             rows: vec![vec![(0, 0); unit.cells]; unit.lock + 1],
         }
     }
@@ -120,7 +120,7 @@ pub fn best(case: &Case) -> Option<(i64, Vec<u16>)> {
         layers.push(layer);
     }
     layers.reverse();
-    let mut state = unit.opening();
+    let mut state = unit.opening()?;
     let profit = layers[0].choice(state).0;
     if profit == NONE {
         return None;

@@ -58,9 +58,9 @@ fn trajectory(section: &[u8], outputs: &mut [u16; STAGES]) -> Result<usize, u32>
     Ok(count)
 }
 
-/// The unit and the two trajectories.
-fn unit(case: &mut Case, [unit, rise, fall]: [&[u8]; 3]) -> Test {
-    keep(2, unit.len() == 32)?;
+/// The unit, of so many bytes, and the two trajectories. Stages stand at the end of a unit that has them.
+fn unit(case: &mut Case, bytes: usize, [unit, rise, fall]: [&[u8]; 3]) -> Test {
+    keep(2, unit.len() == bytes)?;
     case.rises = trajectory(rise, &mut case.rise)?;
     case.falls = trajectory(fall, &mut case.fall)?;
     case.capacity = word(unit, 0);
@@ -75,6 +75,9 @@ fn unit(case: &mut Case, [unit, rise, fall]: [&[u8]; 3]) -> Test {
     case.stopcost = long(unit, 24);
     case.initial = word(unit, 28);
     case.elapsed = word(unit, 30);
+    if let &[up, down] = &unit[32..] {
+        (case.upstage, case.downstage) = (up, down);
+    }
     Ok(())
 }
 
@@ -88,10 +91,23 @@ fn hours(case: &mut Case, section: &[u8], bytes: usize, price: impl Fn(&[u8]) ->
     Ok(())
 }
 
+/// Whether the output and the hours before the day are those of its stage, or of a day without one.
+fn opens(case: &Case) -> bool {
+    let (up, down) = (usize::from(case.upstage), usize::from(case.downstage));
+    let (initial, elapsed) = (case.initial, usize::from(case.elapsed));
+    match (up, down) {
+        (0, 0) if initial == 0 => true,
+        (0, 0) => (case.minimum..=case.capacity).contains(&initial) && elapsed >= case.rises,
+        (_, 0) => up < case.rises && initial == case.rise[up - 1] && elapsed == up,
+        (0, 2..) => down <= case.falls && initial == case.fall[down - 1] && elapsed + 1 >= case.rises + down,
+        _ => false,
+    }
+}
+
 /// Refusals 3 to 8 and 13 of a case whose counts are in order.
 fn limits(case: &Case) -> Test {
     let (rise, fall) = (&case.rise[..case.rises], &case.fall[..case.falls]);
-    let (minimum, capacity, initial) = (case.minimum, case.capacity, case.initial);
+    let (minimum, capacity) = (case.minimum, case.capacity);
     keep(3, (1..=capacity).contains(&minimum) && capacity <= 400)?;
     keep(4, [case.rampup, case.rampdown].iter().all(|ramp| (1..=400).contains(ramp)))?;
     keep(4, [case.minup, case.mindown].iter().all(|time| (1..=8).contains(time)))?;
@@ -100,24 +116,24 @@ fn limits(case: &Case) -> Test {
     keep(5, costs.iter().all(|cost| (0..=100_000_000).contains(cost)))?;
     keep(6, rise[0] >= 1 && rise.is_sorted_by(|a, b| a < b) && rise[case.rises - 1] == minimum)?;
     keep(6, fall[0] == minimum && fall.is_sorted_by(|a, b| a > b) && fall[case.falls - 1] >= 1)?;
-    keep(7, (1..=10_000).contains(&case.elapsed))?;
-    let on = (minimum..=capacity).contains(&initial) && usize::from(case.elapsed) >= case.rises;
-    keep(7, initial == 0 || on)?;
+    keep(7, (1..=10_000).contains(&case.elapsed) && opens(case))?;
     keep(8, case.orders[..case.hours].iter().all(|&order| order <= OFF))?;
     keep(13, case.prices[..case.hours].iter().all(|price| (PRICE_LEAST..=PRICE_MOST).contains(price)))
 }
 
-/// Fills a record of zeros from a file. The first offset decides the form: of four pairs, or of five.
+/// Fills a record of zeros from a file. The first offset decides whether there are four pairs or five; of five the form
+/// number decides how long the unit is.
 fn fill(case: &mut Case, file: &[u8]) -> Test {
     if let Some([first, rise, fall, day]) = sections(file) {
-        unit(case, [first, rise, fall])?;
+        unit(case, 32, [first, rise, fall])?;
         hours(case, day, 3, |hour| i32::from(word(hour, 0)))?;
     } else {
         let [first, rise, fall, day, form] = sections(file).ok_or(1u32)?;
-        unit(case, [first, rise, fall])?;
-        hours(case, day, 5, |hour| long(hour, 0))?;
         keep(2, form.len() == 2)?;
-        keep(12, word(form, 0) == 2)?;
+        let form = word(form, 0);
+        unit(case, if form == 2 { 32 } else { 34 }, [first, rise, fall])?;
+        hours(case, day, 5, |hour| long(hour, 0))?;
+        keep(12, form == 2 || form == 3)?;
     }
     limits(case)
 }

@@ -55,9 +55,9 @@ impl Loops {
         (k..end).map(|h| self.choice(h, k + lock - h, &mut until)).sum()
     }
 
-    /// The most of a walk that opens with at least so many hours before its first lock, or in a lock; from the end of a
-    /// lock to the beginning of the next pass at least `gap` hours.
-    fn walk(&self, open: usize, gap: usize) -> usize {
+    /// The most of a walk that opens with at least an hour before its first lock, the last of a start, or in a lock;
+    /// from the end of a lock to the beginning of the next pass at least `gap` hours.
+    fn walk(&self, gap: usize) -> usize {
         // the most from each hour on, outside a lock, with so many hours to wait before the next may begin
         let mut most = [[0; HOURS + 1]; 2 * STAGES + 1];
         let from_lock = |most: &[[usize; HOURS + 1]], k: usize, lock: usize| {
@@ -69,7 +69,7 @@ impl Loops {
             }
             most[0][k] = most[0][k].max(from_lock(&most, k, self.lock));
         }
-        (1..=self.lock).map(|lock| from_lock(&most, 0, lock)).fold(most[open][0], usize::max)
+        (1..=self.lock).map(|lock| from_lock(&most, 0, lock)).fold(most[1][0], usize::max)
     }
 }
 
@@ -95,7 +95,7 @@ pub fn most() -> usize {
                 for hours in 1..=HOURS {
                     for stride in 1..=Loops::of(hours, cells, lock).stride {
                         let loops = Loops { hours, stride, lock };
-                        most = most.max(loops.back() + loops.walk(rises, rises + falls));
+                        most = most.max(loops.back() + loops.walk(rises + falls));
                     }
                 }
             }

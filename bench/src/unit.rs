@@ -71,16 +71,21 @@ impl<'a> Unit<'a> {
         }
     }
 
-    /// The state in which the day opens.
-    pub fn opening(&self) -> State {
+    /// The state in which the day opens; none in a stop that comes before the minimum up time.
+    pub fn opening(&self) -> Option<State> {
         let (initial, elapsed) = (usize::from(self.case.initial), usize::from(self.case.elapsed));
-        if initial == 0 {
-            return State::Off(elapsed.min(self.rest));
+        let (up, down) = (usize::from(self.case.upstage), usize::from(self.case.downstage));
+        let minup = usize::from(self.case.minup);
+        if up > 0 {
+            return Some(State::Rise(up - 1));
         }
-        State::Run(
-            initial - self.low,
-            (usize::from(self.case.minup) + 1).saturating_sub(elapsed + self.falls),
-        )
+        if down > 0 {
+            return (elapsed + self.falls - down >= minup).then_some(State::Fall(down - 1));
+        }
+        if initial == 0 {
+            return Some(State::Off(elapsed.min(self.rest)));
+        }
+        Some(State::Run(initial - self.low, (minup + 1).saturating_sub(elapsed + self.falls)))
     }
 
     /// The state at the start-up's entry i.
@@ -153,9 +158,9 @@ impl<'a> Unit<'a> {
     }
 }
 
-/// The hours to go before a stop may begin, before each hour of a list.
+/// The hours to go before a stop may begin, before each hour of a list that keeps the rules.
 pub fn locks(unit: &Unit, list: &[u16]) -> Vec<usize> {
-    let mut state = unit.opening();
+    let mut state = unit.opening().expect("a day with a list opens");
     let mut locks = Vec::with_capacity(list.len());
     for &p in list {
         locks.push(if let State::Run(_, j) = state { j } else { 0 });

@@ -1,5 +1,6 @@
-"""The Python module: known days, the source's day, both forms of a file, prices below 0, the better of two lists, days
-by calendar, refusals, numbers that fit no record, the library that it loads, and the module as it is installed."""
+"""The Python module: known days, the source's day, every form of a file, prices below 0, days that open and close
+inside a sequence, the better of two lists, days by calendar, refusals, numbers that fit no record, the library that it
+loads, and the module as it is installed."""
 
 import doctest
 import os
@@ -17,13 +18,18 @@ from itertools import product
 from pathlib import Path
 
 import giqapsun
-from giqapsun import Breaks, Case, First, Neither, Passes, Plan, Refusal, Second
-from giqapsun import best, best_by_calendar, better, check, compare, read, write
+from giqapsun import Breaks, Case, First, Neither, Opening, Passes, Plan, Refusal, Second
+from giqapsun import best, best_by_calendar, better, check, compare, opening_after, read, write
 
 ROOT = Path(__file__).resolve().parents[2]
 CASE_7 = (ROOT / "cases/case7.case").read_bytes()
 SOURCE = (ROOT / "cases/source.case").read_bytes()
 BELOW_ZERO = (ROOT / "cases/below_zero.case").read_bytes()
+EVENING = (ROOT / "cases/evening.case").read_bytes()
+MORNING = (ROOT / "cases/morning.case").read_bytes()
+SECOND_CASE_7 = (ROOT / "cases/old/form2/case7.case").read_bytes()
+SECOND_SOURCE = (ROOT / "cases/old/form2/source.case").read_bytes()
+SECOND_BELOW_ZERO = (ROOT / "cases/old/form2/below_zero.case").read_bytes()
 OLD_CASE_7 = (ROOT / "cases/old/case7.case").read_bytes()
 OLD_SOURCE = (ROOT / "cases/old/source.case").read_bytes()
 SOURCE_LIST = [
@@ -83,10 +89,17 @@ class Days(unittest.TestCase):
         self.assertEqual(write(case), SOURCE)
 
     def test_old_files(self):
-        """An old file is the same case, and comes back in form 2."""
-        for old, file in ((OLD_CASE_7, CASE_7), (OLD_SOURCE, SOURCE)):
+        """A file of an older form is the same case, with stages 0, and comes back in form 3."""
+        for old, file in (
+            (OLD_CASE_7, CASE_7), (OLD_SOURCE, SOURCE), (SECOND_CASE_7, CASE_7), (SECOND_SOURCE, SOURCE),
+            (SECOND_BELOW_ZERO, BELOW_ZERO),
+        ):
             self.assertEqual(read(old), read(file))
+            self.assertEqual((read(old).upstage, read(old).downstage), (0, 0))
             self.assertEqual(write(read(old)), file)
+        for file in (CASE_7, SOURCE, BELOW_ZERO, EVENING, MORNING):
+            self.assertEqual(file[-2:], b"\x03\x00")
+            self.assertEqual(write(read(file)), file)
 
     def test_below_zero(self):
         """The stored day with prices below 0 and a spike, and what its best list earns."""
@@ -216,6 +229,137 @@ class Pairs(unittest.TestCase):
                     same = list(other) == plan.outputs
                     self.given(case, other, plan.outputs, (First if same else Second)(plan.profit))
                     self.given(case, plan.outputs, other, First(plan.profit))
+
+
+class Sequences(unittest.TestCase):
+    """Days that open and close inside a start-up or a shut-down, and what a list leaves for the next day."""
+
+    # a unit with start-ups and shut-downs of three hours, which goes on at 4 MW at the most
+    UNIT = Case(
+        capacity=4, minimum=3, rampup=1, rampdown=1, minup=1, mindown=1, variable=10, fixed=1, startcost=3, stopcost=2,
+        initial=4, elapsed=9, rise=[1, 2, 3], fall=[3, 2, 1], prices=[5] * 3, orders=[giqapsun.FREE] * 3,
+    )
+
+    def day(self, *opening, **changes):
+        """The unit with an opening, as written and read again."""
+        case = replace(self.UNIT, **asdict(Opening(*opening)), **changes)
+        self.assertEqual(read(write(case)), case)
+        return case
+
+    def only(self, case, outputs, profit):
+        """Of all lists with the first outputs of these, this one alone passes."""
+        self.assertEqual(check(case, outputs), Passes(profit))
+        for other in product(range(5), repeat=len(outputs)):
+            if list(other) != outputs:
+                self.assertIsInstance(check(case, other), Breaks, other)
+        self.assertEqual(best(case), Plan(outputs, profit))
+
+    def test_opening_in_a_start_up(self):
+        """Hour 1 goes on with the next stage; B is not of this day."""
+        hours = {"prices": [10] * 2, "orders": [0] * 2}
+        self.only(self.day(1, 1, 1, **hours), [2, 3], -4)
+        rising = self.day(2, 2, 2, **hours)
+        self.assertEqual([check(rising, outputs) for outputs in ([3, 3], [3, 4])], [Passes(-4)] * 2)
+        self.assertEqual(check(rising, [2, 3]), Breaks(1, 1))
+        # the whole of it, from the start on, is a day of more hours
+        whole = self.day(0, 9, prices=[10] * 3)
+        self.assertEqual(check(whole, [1, 2, 3]), Passes(-4 - 2 * 1 - 2 * 3))
+
+    def test_opening_in_a_shut_down(self):
+        """Hour 1 goes on with the next stage, and C is of the day that holds the stop."""
+        hours = {"prices": [10] * 2, "orders": [0] * 2, "mindown": 8}
+        self.only(self.day(2, 4, 0, 2, **hours), [1, 0], -2 * 1 - 2 * 2)
+        self.only(self.day(1, 5, 0, 3, **hours), [0, 0], -2 * 2)
+        # the stop stands after the day
+        self.only(self.day(2, 4, 0, 2, prices=[10], orders=[0]), [1], -2)
+        # the minimum up time is not over by then
+        with self.assertRaises(Refusal) as caught:
+            best(self.day(2, 4, 0, 2, minup=6))
+        self.assertEqual(caught.exception.number, 11)
+        self.assertEqual(check(self.day(2, 4, 0, 2, minup=6), [1, 0, 0]), Breaks(2, 21))
+
+    def test_closing_in_a_shut_down(self):
+        """On PD(2) or later, without C; a start-up that reaches the last hour is none."""
+        self.assertEqual(check(self.UNIT, [4, 3, 2]), Passes(-5 * (8 + 7 + 5) - 6))
+        self.assertEqual(check(self.UNIT, [3, 2, 1]), Passes(-5 * (7 + 5 + 3) - 6))
+        self.assertEqual(check(self.UNIT, [4, 4, 2]), Breaks(2, 4))
+        self.assertEqual(best(self.UNIT), Plan([3, 2, 1], -81))
+        rising = self.day(0, 9, prices=[10] * 2, orders=[0] * 2)
+        self.assertEqual(check(rising, [1, 2]), Passes(-10))
+        self.assertEqual(opening_after(rising, [1, 2]), Opening(2, 2, upstage=2))
+
+    def test_hour_above_the_last(self):
+        """21 at the stop after the day, for each stage that a list may close on."""
+        for outputs, hour in (([4, 3, 2], 5), ([3, 2, 1], 4)):
+            self.assertEqual(check(replace(self.UNIT, elapsed=3, minup=8), outputs), Breaks(hour, 21))
+            self.assertEqual(Breaks(hour, 21).text, "minimum up time")
+            case = replace(self.UNIT, elapsed=9 - hour, minup=8)
+            self.assertIsInstance(check(case, outputs), Passes)
+
+    def test_stored_days(self):
+        """The morning opens as the evening's best list leaves the unit."""
+        evening, morning = read(EVENING), read(MORNING)
+        plan = best(evening)
+        self.assertEqual((plan.outputs[-3:], plan.profit), ([162, 112, 70], 36_130_586))
+        left = opening_after(evening, plan.outputs)
+        self.assertEqual(left, Opening(70, 17, downstage=2))
+        self.assertEqual(replace(evening, **asdict(left), prices=morning.prices), morning)
+        self.assertEqual(best(morning).outputs[:3], [30, 0, 0])
+
+    def test_opening_after(self):
+        """Output, hours in state up to 10,000, stages."""
+        case = self.UNIT
+        for outputs, left in (
+            ([], Opening(4, 9)),
+            ([4], Opening(4, 10)),
+            ([3], Opening(3, 10)),
+            ([3, 2], Opening(2, 11, downstage=2)),
+            ([3, 2, 1], Opening(1, 12, downstage=3)),
+            ([3, 2, 1, 0], Opening(0, 1)),
+            ([3, 2, 1, 0, 0], Opening(0, 2)),
+            ([3, 2, 1, 0, 1], Opening(1, 1, upstage=1)),
+            ([3, 2, 1, 0, 1, 2], Opening(2, 2, upstage=2)),
+            ([3, 2, 1, 0, 1, 2, 3], Opening(3, 3)),
+            ([3, 2, 1, 0, 1, 2, 3, 2], Opening(2, 4, downstage=2)),
+        ):
+            self.assertEqual(opening_after(case, outputs), left)
+            self.assertEqual(opening_after(case, map(Index, outputs)), left)
+        for opening in (Opening(1, 1, 1), Opening(2, 2, 2), Opening(2, 4, 0, 2), Opening(1, 5, 0, 3), Opening(0, 1)):
+            self.assertEqual(opening_after(self.day(*asdict(opening).values()), []), opening)
+        self.assertEqual(opening_after(self.day(1, 1, 1), [2]), Opening(2, 2, upstage=2))
+        self.assertEqual(opening_after(self.day(1, 1, 1), [2, 3]), Opening(3, 3))
+        self.assertEqual(opening_after(replace(case, elapsed=9_999), [4] * 48), Opening(4, 10_000))
+        self.assertRaises(ValueError, opening_after, case, [65_536])
+        self.assertRaises(ValueError, opening_after, case, None)
+
+    def test_days_as_one(self):
+        """Every list of four hours, cut after each: it passes exactly if both parts do, and earns their sum."""
+        for case in (self.UNIT, self.day(0, 2), self.day(2, 2, 2), self.day(1, 5, 0, 3, minup=5)):
+            case = replace(case, prices=[5, -7, 30, 12], orders=[0] * 4)
+            passed = 0
+            for outputs in map(list, product(range(5), repeat=4)):
+                whole = check(case, outputs)
+                for cut in (1, 2, 3):
+                    self.assertEqual(self.parts(case, outputs, cut), whole if isinstance(whole, Passes) else None)
+                passed += isinstance(whole, Passes)
+            self.assertGreater(passed, 1)
+
+    @staticmethod
+    def parts(case, outputs, cut):
+        """The verdict on a list as that of two days, None where either part breaks a rule."""
+        first = replace(case, prices=case.prices[:cut], orders=case.orders[:cut])
+        second = replace(case, prices=case.prices[cut:], orders=case.orders[cut:])
+        before = check(first, outputs[:cut])
+        if isinstance(before, Breaks):
+            return None
+        after = check(replace(second, **asdict(opening_after(first, outputs[:cut]))), outputs[cut:])
+        return None if isinstance(after, Breaks) else Passes(before.profit + after.profit)
+
+    def test_older_calls(self):
+        """A case without the stages has 0, also by place."""
+        case = Case(4, 3, 1, 1, 1, 1, 10, 1, 3, 2, 4, 9, [1, 2, 3], [3, 2, 1], [5] * 3, [0] * 3)
+        self.assertEqual(case, self.UNIT)
+        self.assertEqual((case.upstage, case.downstage), (0, 0))
 
 
 class Refusing(unittest.TestCase):
@@ -375,19 +519,51 @@ class Refusals(Refusing):
     def test_of_a_form(self):
         """2, then 12, then the numbers of the record; a cost of 2^31 or more is one below 0."""
         self.refused(2, read, CASE_7[:18] + b"\x03" + CASE_7[19:] + b"\x00")
-        self.refused(2, read, CASE_7[:18] + b"\x00" + CASE_7[19:75])
-        for form in (0, 1, 3, 258, 65_535):
-            unknown = CASE_7[:75] + form.to_bytes(2, "little")
+        self.refused(2, read, CASE_7[:18] + b"\x00" + CASE_7[19:77])
+        # the unit of form 2 has 32 bytes, that of form 3 and of an unknown form 34
+        for form in (0, 1, 3, 4):
+            self.refused(2, read, SECOND_CASE_7[:75] + form.to_bytes(2, "little"))
+        self.refused(2, read, CASE_7[:77] + b"\x02\x00")
+        for form in (0, 1, 4, 258, 259, 65_535):
+            unknown = CASE_7[:77] + form.to_bytes(2, "little")
             self.refused(12, read, unknown)
             self.refused(12, read, unknown[:20] + b"\x01" + unknown[21:])
         self.refused(3, read, CASE_7[:20] + b"\x01" + CASE_7[21:])
-        for data, place in ((CASE_7, 36), (OLD_CASE_7, 32)):
+        for data, place in ((CASE_7, 36), (SECOND_CASE_7, 36), (OLD_CASE_7, 32)):
             for cost in (100_000_001, 2**31, 2**32 - 1):
                 self.refused(5, read, data[:place] + cost.to_bytes(4, "little") + data[place + 4 :])
         for price in (giqapsun.PRICE_LEAST - 1, giqapsun.PRICE_MOST + 1, -(2**31), 2**31 - 1):
-            beyond = CASE_7[:65] + price.to_bytes(4, "little", signed=True) + CASE_7[69:]
+            beyond = CASE_7[:67] + price.to_bytes(4, "little", signed=True) + CASE_7[71:]
             self.refused(13, read, beyond)
-            self.refused(8, read, beyond[:74] + b"\x03" + beyond[75:])
+            self.refused(8, read, beyond[:76] + b"\x03" + beyond[77:])
+        # the stages, beside an output and hours that allow none
+        for stages in (b"\1\0", b"\0\2", b"\1\2", b"\xff\0", b"\0\xff"):
+            self.refused(7, read, CASE_7[:52] + stages + CASE_7[54:])
+
+    def test_of_an_opening(self):
+        """7 by each stage: which stages there are, the output and the hours of each, not both."""
+        unit = replace(read(CASE_7), minimum=3, initial=3, elapsed=9, rise=[1, 2, 3], fall=[3, 2, 1])
+        write(unit)
+        for initial, elapsed, upstage, downstage in (
+            (3, 3, 3, 0), (3, 4, 4, 0), (4, 9, 255, 0),  # a start-up stage not below UD
+            (1, 2, 1, 0), (1, 9, 1, 0), (2, 1, 2, 0), (2, 3, 2, 0),  # h not the stage
+            (2, 1, 1, 0), (1, 2, 2, 0), (0, 1, 1, 0), (3, 1, 1, 0), (3, 2, 2, 0),  # p(0) not PU(stage)
+            (3, 9, 0, 1), (1, 9, 0, 4), (3, 9, 0, 255),  # a shut-down stage not from 2 to DD
+            (3, 9, 0, 2), (1, 9, 0, 2), (2, 9, 0, 3), (0, 9, 0, 3),  # p(0) not PD(stage)
+            (2, 3, 0, 2), (1, 4, 0, 3), (2, 0, 0, 2), (2, 10_001, 0, 2),  # h below UD + stage - 1, or above its limit
+            (2, 2, 2, 2), (1, 1, 1, 3), (3, 9, 1, 1),  # both
+            (1, 1, 0, 0), (2, 2, 0, 0), (2, 9, 0, 0), (1, 9, 0, 0), (3, 2, 0, 0),  # none set
+        ):
+            opening = Opening(initial, elapsed, upstage, downstage)
+            with self.subTest(opening=opening):
+                self.refused(7, write, replace(unit, **asdict(opening)))
+                self.refused(7, best, replace(unit, **asdict(opening)))
+        for opening in (
+            Opening(1, 1, 1), Opening(2, 2, 2), Opening(2, 4, 0, 2), Opening(1, 5, 0, 3), Opening(2, 10_000, 0, 2),
+            Opening(3, 3), Opening(0, 1),
+        ):
+            case = replace(unit, **asdict(opening))
+            self.assertEqual(read(write(case)), case)
 
     def test_of_a_record(self):
         case = read(CASE_7)
@@ -432,7 +608,7 @@ class Refusals(Refusing):
 
     def test_text(self):
         self.assertEqual(str(Refusal(8)), "refused 8: an order byte above 2")
-        self.assertEqual(str(Refusal(12)), "refused 12: form number not 2")
+        self.assertEqual(str(Refusal(12)), "refused 12: form number neither 2 nor 3")
         self.assertEqual(str(Refusal(15)), "refused 15: an hour of the day in both lists of windows")
         self.assertEqual((Refusal(16).number, Refusal(16).text), (16, "a number that is not in the refusal list"))
         self.assertEqual(pickle.loads(pickle.dumps(Refusal(3))).number, 3)
@@ -454,6 +630,10 @@ class Widths(unittest.TestCase):
             {"capacity": -1},
             {"capacity": 4.0},
             {"capacity": True},
+            {"upstage": 256},
+            {"upstage": -1},
+            {"downstage": 256},
+            {"downstage": 1.0},
             {"variable": 2**31},
             {"fixed": -(2**31) - 1},
             {"rise": [1, 65_536]},
@@ -556,7 +736,7 @@ class Kinds(unittest.TestCase):
                 setattr(case, name, 1)
         with self.assertRaises(TypeError):
             Case(ramp_up=1)
-        for answer in (Passes(1), Breaks(1, 2), best(case), First(1), Second(1), Neither()):
+        for answer in (Passes(1), Breaks(1, 2), best(case), First(1), Second(1), Neither(), Opening(1, 2)):
             with self.assertRaises((AttributeError, TypeError)):
                 answer.other = 1
             self.assertEqual(pickle.loads(pickle.dumps(answer)), answer)
@@ -564,10 +744,11 @@ class Kinds(unittest.TestCase):
 
     def test_types(self):
         self.assertTrue((Path(giqapsun.__file__).parent / "py.typed").exists())
-        for call in (read, write, check, best, best_by_calendar, compare, better, giqapsun.library_file):
+        calls = (read, write, check, best, best_by_calendar, compare, better, opening_after, giqapsun.library_file)
+        for call in calls:
             hints = typing.get_type_hints(call)
             self.assertEqual(len(hints), call.__code__.co_argcount + 1)
-        for kind in (Case, Passes, Breaks, Plan, First, Second, Neither):
+        for kind in (Case, Opening, Passes, Breaks, Plan, First, Second, Neither):
             self.assertEqual(set(typing.get_type_hints(kind)), {field.name for field in fields(kind)})
 
     def test_names_are_those_of_the_header(self):
@@ -615,10 +796,10 @@ class Library(unittest.TestCase):
     def test_complaints(self):
         calls = ("read", "write", "check", "best", "better")
         for functions, lacks, reason in (
-            (["giqapsun_read"], "giqapsun_read_2", "it is no library of layout 2"),
-            ([f"giqapsun_{call}_1" for call in calls], "giqapsun_read_2", "it is no library of layout 2"),
-            ([f"giqapsun_{call}_2" for call in calls[:4]], "giqapsun_better_2", "it is of an earlier version"),
-            ([f"giqapsun_{call}_2" for call in calls], "giqapsun_best_by_calendar_2", "it is of an earlier version"),
+            (["giqapsun_read"], "giqapsun_read_3", "it is no library of layout 3"),
+            ([f"giqapsun_{call}_2" for call in calls], "giqapsun_read_3", "it is no library of layout 3"),
+            ([f"giqapsun_{call}_3" for call in calls[:4]], "giqapsun_better_3", "it is of an earlier version"),
+            ([f"giqapsun_{call}_3" for call in calls], "giqapsun_best_by_calendar_3", "it is of an earlier version"),
         ):
             text = "".join(f"int {function}(void) {{ return 0; }}\n" for function in functions)
             (self.folder / "stub.c").write_text(text)

@@ -8,8 +8,8 @@ import re
 import subprocess
 
 from tool import (
-    BELOW_ZERO, BELOW_ZERO_LIST, CASE_7, FAKE, OLD_CASE_7, OLD_SOURCE, ROOT, SOURCE, SOURCE_LIST, ToolTest, file_of,
-    known_days, texts, unit,
+    BELOW_ZERO, BELOW_ZERO_LIST, CASE_7, FAKE, OLD_CASE_7, OLD_SOURCE, ROOT, SECOND_CASE_7, SECOND_SOURCE, SOURCE,
+    SOURCE_LIST, ToolTest, file_of, known_days, texts, unit,
 )
 
 CASE_7_ANSWER = "profit -53\n1 2 5\n2 1 3\n3 0 1\n"
@@ -66,6 +66,7 @@ class Answered(ToolTest):
         hours = answer.pop("hours")
         self.assertEqual(answer, {
             "profit_half_mills": 33546962, "profit_dollars": "16773.4810", "energy_half_mwh": 8398,
+            "stop_after_day": None, "opening_after": {"initial": 144, "elapsed": 17, "upstage": 0, "downstage": 0},
             "read_by": "library", "found_by": str(FAKE),
         })
         self.assertEqual([hour["output"] for hour in hours], SOURCE_LIST)
@@ -151,10 +152,10 @@ class Found(ToolTest):
             yield status, text.removesuffix(line)
 
     def test_stored_cases(self):
-        for data in (CASE_7, OLD_CASE_7):
+        for data in (CASE_7, SECOND_CASE_7, OLD_CASE_7):
             for answer in self.both(data):
                 self.assertEqual(answer, (0, CASE_7_TABLE))
-        for data in (SOURCE, OLD_SOURCE):
+        for data in (SOURCE, SECOND_SOURCE, OLD_SOURCE):
             for status, text in self.both(data):
                 self.assertEqual((status, text.splitlines()[-1]), (0, "profit 33546962 half-mills"))
 
@@ -204,7 +205,7 @@ profit 23399976000 half-mills
                         case ["list", outputs, "profit", profit]:
                             found = re.findall(r"^ +\d+ +\w+ +-?[\d.]+ +(\d+)", text, re.MULTILINE)
                             self.assertEqual((status, ",".join(found)), (0, outputs))
-                            self.assertTrue(text.endswith(f"profit {profit} half-mills\n"))
+                            self.assertIn(f"\nprofit {profit} half-mills\n", text)
                         case ["refused", number]:
                             self.assertEqual(status, 2)
                             self.assertTrue(text.startswith(f"case: d.case: refused {number}: "))
@@ -216,7 +217,8 @@ profit 23399976000 half-mills
             (3, file_of(minimum=5), "minimum: 5, from 1 to the capacity 4 allowed"),
             (8, OLD_CASE_7[:-1] + b"\x03", "orders: 3 at hour 3, 0 (free), 1 (on) or 2 (off) allowed"),
             (1, bytes(5000), "byte 0: offset of unit: 0, 20 (16 in the old form) needed"),
-            (12, CASE_7[:-2] + b"\x05\x00", "byte 75: form number: 5, 2 needed"),
+            (12, CASE_7[:-2] + b"\x05\x00", "byte 77: form number: 5, 2 or 3 needed"),
+            (7, file_of(downstage=3), "downstage: 3, 0 or from 2 to 2 allowed with 2 outputs of fall"),
             (13, file_of(prices=[5, 5, 10**7 + 1]), "prices: 10,000,001 mills ($10,000.001) at hour 3, from "
              "$-10,000.000 to $10,000.000 allowed"),
         ]:
@@ -241,7 +243,7 @@ case: d.case: refused 11: best list asked for, and no list keeps every rule
 case: orders: on-line at hour 2
 case: orders: off-line at hours 1, 4
 case: opening: initial 0 MW, elapsed 2 hours off-line
-case: times: minup 1, mindown 1; a start-up takes 2 hours, a shut-down 2 and ends inside the day
+case: times: minup 1, mindown 1; a start-up takes 2 hours, a shut-down 2
 case: the orders before hour 4 can be kept together; with that of hour 4 no list keeps every rule
 """
         for answer in self.both(data):
@@ -249,3 +251,15 @@ case: the orders before hour 4 can be kept together; with that of hour 4 no list
         status, printed, _ = self.run_tool("best", "d.case", "--json", GIQAPSUN_BEST_DAY="")
         answer = json.loads(printed)
         self.assertEqual((status, answer["refused"], len(answer["details"])), (2, 11, 5))
+
+    def test_no_schedule_after_an_opening_stop(self):
+        """A day without orders whose shut-down ends too early for the minimum up time."""
+        data = file_of(minup=8, initial=1, elapsed=3, downstage=2)
+        text = """\
+case: d.case: refused 11: best list asked for, and no list keeps every rule
+case: opening: initial 1 MW, elapsed 3 hours on-line, in stage 2 of 2 of a shut-down
+case: times: minup 8, mindown 1; a start-up takes 2 hours, a shut-down 2
+case: the shut-down that the day opens in has its stop at hour 1, after 3 hours on-line
+"""
+        for answer in self.both(data):
+            self.assertEqual(answer, (2, text))

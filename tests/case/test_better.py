@@ -9,8 +9,8 @@ import re
 from unittest import mock
 
 from tool import (
-    BELOW_ZERO, BELOW_ZERO_LIST, CASE_7, CASES, COLUMNS, OLD_CASE_7, ROOT, SOURCE, SOURCE_LIST, SVG, PictureTest,
-    file_of, giqapsun, list_text, random_list, texts,
+    BELOW_ZERO, BELOW_ZERO_LIST, CASE_7, CASES, COLUMNS, EVENING, EVENING_CLOSES, EVENING_LIST, MORNING, OLD_CASE_7,
+    ROOT, SECOND_CASE_7, SOURCE, SOURCE_LIST, SVG, PictureTest, file_of, giqapsun, list_text, random_list, texts,
 )
 
 from better import compared
@@ -115,7 +115,7 @@ class Chosen(PairTest):
                 second[chance.randrange(len(second))] = chance.randint(0, case.capacity)
             if chance.random() < 0.5:
                 case.prices, case.fixed, case.startcost, case.stopcost = [case.variable] * len(first), 0, 0, 0
-            pair = compared("d.case", Reading(case, "library", 2), ("a.csv", first), ("b.csv", second))
+            pair = compared("d.case", Reading(case, "library", 3), ("a.csv", first), ("b.csv", second))
             seen.setdefault(pair.reason, set()).add(type(pair.choice))
         both = {giqapsun.First, giqapsun.Second}
         self.assertEqual(seen, {
@@ -127,8 +127,21 @@ class Printed(PairTest):
     """The text, and the answer for programs."""
 
     def test_text(self):
-        for data in (CASE_7, OLD_CASE_7):
+        for data in (CASE_7, SECOND_CASE_7, OLD_CASE_7):
             self.assertEqual(self.compared(data, BEST, HIGH), (0, TABLE))
+
+    def test_closing(self):
+        """A list that closes in a shut-down, beside one that stays at the minimum."""
+        status, lines = self.offered(EVENING, [*EVENING_LIST[:23], 112], EVENING_LIST)
+        self.assertEqual((status, lines), (0, [
+            "the first, a.csv, passes: earns $17,466.7930 (34933586 half-mills)",
+            "the second, b.csv, passes: earns $18,065.2930 (36130586 half-mills)",
+            f"    {EVENING_CLOSES}",
+            "they differ first at hour 24: 112 MW in the first, 70 MW in the second",
+            "offer the second, b.csv: it earns $598.5000 more",
+        ]))
+        answer = json.loads(self.compared(EVENING, [*EVENING_LIST[:23], 112], EVENING_LIST, "--json")[1])
+        self.assertEqual([checked["stop_after_day"] for checked in answer["lists"]], [None, 26])
 
     def test_below_zero(self):
         """A list that stays on-line through the hours below 0, beside one that stops."""
@@ -294,7 +307,8 @@ class BetterFaults(PairTest):
             (2, file_of(prices=[1] * 49, orders=[0] * 49), "hours: 49, from 1 to 48 allowed"),
             (3, file_of(minimum=5), "minimum: 5, from 1 to the capacity 4 allowed"),
             (8, file_of(orders=[0, 3, 0]), "orders: 3 at hour 2, 0 (free), 1 (on) or 2 (off) allowed"),
-            (12, CASE_7[:-2] + b"\3\0", "byte 75: form number: 3, 2 needed"),
+            (12, CASE_7[:-2] + b"\4\0", "byte 77: form number: 4, 2 or 3 needed"),
+            (7, file_of(upstage=2), "upstage: 2, 0 or from 1 to 1 allowed with 2 outputs of rise"),
             (13, file_of(prices=[-(10**7) - 1, 5, 5]), "prices: -10,000,001 mills ($-10,000.001) at hour 1, from "
              "$-10,000.000 to $10,000.000 allowed"),
         ]:
@@ -387,6 +401,15 @@ class PlotOfTwo(PairTest):
             "variable cost F", "they differ",
         ):
             self.assertIn(label, texts)
+
+    def test_sequences_at_the_ends(self):
+        """The stop after the day stands beside what the list earns, and how the day opens below its outputs."""
+        texts = self.texts(self.picture(EVENING, [*EVENING_LIST[:23], 112], EVENING_LIST))
+        self.assertIn("first: a.csv, earns $17,466.7930", texts)
+        self.assertIn("second: b.csv, earns $18,065.2930, stop at hour 26", texts)
+        self.assertFalse([text for text in texts if text.startswith("opens")])
+        morning = [30, *[0] * 23]
+        self.assertIn("opens in stage 2 of 3 of a shut-down", self.texts(self.picture(MORNING, morning, morning)))
 
     def test_told_apart_without_colours(self):
         """The first is a full line with dots, the second a dashed one with squares; both are in the key."""

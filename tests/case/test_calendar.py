@@ -225,7 +225,8 @@ class Printed(CalendarTest):
     def test_json(self):
         answer = self.day([("on", 3146, 5), ("off", 3164, 32)], "--first", "3143")
         self.assertEqual(list(answer), [
-            "profit_half_mills", "profit_dollars", "energy_half_mwh", "calendar", "hours", "read_by", "found_by",
+            "profit_half_mills", "profit_dollars", "energy_half_mwh", "stop_after_day", "opening_after", "calendar",
+            "hours", "read_by", "found_by",
         ])
         self.assertEqual(answer["calendar"], {
             "file": "y.csv", "first": 3143, "hours": 24, "date": None, "zone": None, "replaced": [],
@@ -321,7 +322,10 @@ class Dates(CalendarTest):
     def test_printed(self):
         text = self.best([], "--date", "2027-10-31", *MADRID, case=day_case(25))
         self.assertIn("\ncalendar y.csv: 25 hours, 7271 to 7295 of the year, 2027-10-31 in Europe/Madrid\n", text)
-        rows = csv.DictReader(io.StringIO(self.best([], "--date", "2027-10-31", *MADRID, "--csv", case=day_case(25))))
+        status, printed, message = self.run_best([], "--date", "2027-10-31", *MADRID, "--csv", case=day_case(25))
+        self.assertEqual((status, message), (0, "case: closes in stage 3 of 3 of a shut-down, stop at hour 26, 1 hour "
+                                                "after the last; C belongs to the day that holds it\n"))
+        rows = csv.DictReader(io.StringIO(printed.decode()))
         self.assertEqual({(row["date"], row["zone"]) for row in rows}, {("2027-10-31", "Europe/Madrid")})
 
     def test_made_case(self):
@@ -539,7 +543,7 @@ class Refused(CalendarTest):
             "orders: on-line at hour 3",
             "orders: off-line at hours 1 to 2, 5 to 12",
             "opening: initial 0 MW, elapsed 1 hour off-line",
-            "times: minup 3, mindown 3; a start-up takes 3 hours, a shut-down 3 and ends inside the day",
+            "times: minup 3, mindown 3; a start-up takes 3 hours, a shut-down 3",
             "the orders before hour 5 can be kept together; with that of hour 5 no list keeps every rule",
         ], [("on", 102, 1), ("off", 90, 12), ("off", 104, 8)], "--first", "100", files="d.case, y.csv", case=case)
 

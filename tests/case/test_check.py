@@ -6,7 +6,10 @@ import json
 import random
 from dataclasses import replace
 
-from tool import CASE_7, COLUMNS, SOURCE, SOURCE_LIST, ToolTest, giqapsun, list_text, random_list, small, texts
+from tool import (
+    CASE_7, COLUMNS, EVENING, EVENING_CLOSES, EVENING_LIST, SOURCE, SOURCE_LIST, ToolTest, giqapsun, list_text,
+    random_list, small, texts,
+)
 
 from rules import Marks, breach, kept
 
@@ -29,6 +32,18 @@ class Checked(ToolTest):
         text = "passes: earns $-0.0265 (-53 half-mills)\nread by the library\n"
         self.assertEqual(self.verdict(CASE_7, [2, 1, 0]), (0, text))
 
+    def test_stop_after_the_day(self):
+        """A list that closes in a shut-down, and one whose stop after the day comes too early."""
+        text = f"passes: earns $18,065.2930 (36130586 half-mills)\n{EVENING_CLOSES}\nread by the library\n"
+        self.assertEqual(self.verdict(EVENING, EVENING_LIST), (0, text))
+        early = small(initial=0, minup=6, prices=[5] * 4, orders=[0] * 4)
+        text = """\
+breaks rule 21 at hour 5: minimum up time
+hour 5: the shut-down that the day closes in ends here: stop after 4 hours on-line; the minimum up time is 6
+read by the library
+"""
+        self.assertEqual(self.verdict(giqapsun.write(early), [1, 2, 2, 1]), (1, text))
+
     def test_breaks(self):
         data = giqapsun.write(replace(giqapsun.read(SOURCE), rampup=50))
         text = """\
@@ -48,17 +63,20 @@ read by the library
     def test_for_programs(self):
         passed = {
             "verdict": "passes", "profit_half_mills": 33546962, "profit_dollars": "16773.4810", "hour": None,
-            "rule": None, "rule_text": None, "text": None, "read_by": "library",
+            "rule": None, "rule_text": None, "text": None, "stop_after_day": None, "read_by": "library",
         }
+        closed = {**passed, "profit_half_mills": 36130586, "profit_dollars": "18065.2930", "stop_after_day": 26}
         broken = {
             "verdict": "breaks", "profit_half_mills": None, "profit_dollars": None, "hour": 1, "rule": 6,
             "rule_text": "ramp-down limit RD", "text": "hour 1: from 170 to 115 MW is down 55; RD allows 50",
-            "read_by": "library",
+            "stop_after_day": None, "read_by": "library",
         }
-        for outputs, fields in [(SOURCE_LIST, passed), ([115] * 24, broken)]:
-            status, text = self.verdict(SOURCE, outputs, "--json")
+        for data, outputs, fields in [
+            (SOURCE, SOURCE_LIST, passed), (EVENING, EVENING_LIST, closed), (SOURCE, [115] * 24, broken),
+        ]:
+            status, text = self.verdict(data, outputs, "--json")
             self.assertEqual((status, json.loads(text)), (int(fields is broken), fields))
-            _, text = self.verdict(SOURCE, outputs, "--csv")
+            _, text = self.verdict(data, outputs, "--csv")
             row = {name: "" if value is None else str(value) for name, value in fields.items() if name != "read_by"}
             self.assertEqual(list(csv.DictReader(io.StringIO(text))), [row])
 
@@ -107,7 +125,7 @@ class Words(ToolTest):
 
     def test_output_limits(self):
         wide = small(minimum=3, rise=[1, 2, 3], fall=[3, 2, 1], elapsed=3)
-        self.said(wide, [1, 1, 1], 1, "hour 1: 1 MW outside a start-up and a shut-down; the minimum is 3")
+        self.said(wide, [1, 1, 3], 1, "hour 1: 1 MW outside a start-up and a shut-down; the minimum is 3")
         off = replace(wide, initial=0)
         self.said(
             off, [1, 1, 3], 1, "hour 2: 1 MW; stage 2 of the start-up begun at hour 1 asks for at least 2"
@@ -125,6 +143,38 @@ class Words(ToolTest):
             replace(wide, initial=0), [0, 1, 0], 4,
             "hour 0: off-line; the stop at hour 3 needs stage 1 of the shut-down here, 3 MW",
         )
+
+    def test_openings(self):
+        """A day that opens inside a sequence and does not go on with it."""
+        wide = small(minimum=3, rise=[1, 2, 3], fall=[3, 2, 1])
+        rising = replace(wide, initial=1, elapsed=1, upstage=1)
+        opens = "the start-up that the day opens in"
+        self.said(rising, [1, 2, 3], 1, f"hour 1: 1 MW; stage 2 of {opens} asks for at least 2")
+        self.said(rising, [2, 4, 4], 3, f"hour 2: 4 MW; stage 3 of {opens} allows 3")
+        self.said(rising, [0, 0, 0], 3, f"hour 1: off-line; stage 2 of {opens} needs 2 MW here")
+        level = small(capacity=2, initial=1, elapsed=1, upstage=1)
+        self.said(level, [0, 0, 0], 8, f"hour 1: off-line; stage 2 of {opens} needs 2 MW here")
+        falling = replace(wide, initial=2, elapsed=9, downstage=2)
+        self.said(
+            falling, [2, 1, 0], 2,
+            "hour 0: 2 MW; the stop at hour 3 makes it stage 1 of the shut-down, which asks for at least 3",
+        )
+        self.said(
+            falling, [0, 0, 0], 4, "hour 0: 2 MW; the stop at hour 1 makes it stage 3 of the shut-down, which allows 1"
+        )
+
+    def test_closings(self):
+        """Rules that see the stop after the day."""
+        wide = small(minimum=3, rise=[1, 2, 3], fall=[3, 2, 1], elapsed=9, initial=4)
+        self.said(
+            wide, [3, 3, 1], 4, "hour 2: 3 MW; the stop at hour 4 makes it stage 2 of the shut-down, which allows 2"
+        )
+        self.said(
+            wide, [3, 2, 2], 2,
+            "hour 2: 2 MW; the stop at hour 5 makes it stage 1 of the shut-down, which asks for at least 3",
+        )
+        # an output of both trajectories is that of the start-up while it lasts
+        self.assertIsInstance(giqapsun.check(replace(wide, initial=0), [0, 1, 2]), giqapsun.Passes)
 
     def test_ramps(self):
         self.said(small(), [3, 3, 5], 3, "hour 3: 5 MW; the capacity is 4")
@@ -186,7 +236,7 @@ class Words(ToolTest):
 
     def test_breach_that_is_none(self):
         """A verdict that the numbers do not bear out is not explained away."""
-        for hour, rule in [(1, 5), (2, 99), (4, 23), (0, 2)]:
+        for hour, rule in [(1, 5), (2, 99), (4, 23), (0, 2), (0, 5), (4, 21), (5, 21)]:
             words = f"hour {hour}: rule {rule} is named, and this tool finds no numbers that break it"
             self.assertEqual(breach(small(), [3, 3, 3], hour, rule), words)
 
@@ -194,14 +244,14 @@ class Words(ToolTest):
         """On random lists: the rule that the library names is broken by the numbers that the words are made of, and
         by those numbers no earlier hour and no lower rule is."""
         chance = random.Random(7)
-        seen = {}
-        for _ in range(3000):
+        seen, above = {}, 0
+        for _ in range(6000):
             case, outputs = random_list(chance)
             verdict = giqapsun.check(case, outputs)
             marks = Marks(case, outputs)
+            hours = range(len(outputs) + len(case.fall))
             broken = [
-                (k, rule) for k in range(len(outputs) + 1) for rule in (RULES if k else (2, 4))
-                if not kept(marks, rule, k)
+                (k, rule) for k in hours for rule in RULES if marks.tests(rule, k) and not kept(marks, rule, k)
             ]
             if isinstance(verdict, giqapsun.Passes):
                 self.assertEqual(broken, [])
@@ -211,5 +261,7 @@ class Words(ToolTest):
                 self.assertTrue(words.startswith(f"hour {verdict.hour}: "))
                 self.assertNotIn("no numbers", words)
                 seen[verdict.rule] = seen.get(verdict.rule, 0) + 1
-        # 7, 8 and 12 are never named: docs/DECISIONS.md
-        self.assertEqual(sorted(set(RULES) - set(seen)), [7, 8, 12])
+                above += verdict.hour > len(outputs)
+        # 7 and 12 are never named; 8 is by a day that breaks off the start-up it opens in
+        self.assertEqual(sorted(set(RULES) - set(seen)), [7, 12])
+        self.assertGreater(above, 20)

@@ -13,20 +13,33 @@ class Made(ToolTest):
     """Cases that are made."""
 
     def test_stored_cases(self):
-        for name in ("source", "case7", "below_zero"):
+        for name in ("source", "case7", "below_zero", "evening", "morning"):
             made = self.made((CASES / f"{name}.toml").read_bytes(), (CASES / f"{name}.csv").read_bytes())
             self.assertEqual(made, (CASES / f"{name}.case").read_bytes())
 
     def test_keys_are_the_names_of_the_record(self):
         keys = {key.removesuffix("_mills") for key in UNIT}
-        self.assertEqual(keys, {field.name for field in fields(giqapsun.Case)} - {"prices", "orders"})
+        stages = {"upstage", "downstage"}
+        self.assertEqual(keys, {field.name for field in fields(giqapsun.Case)} - {"prices", "orders"} - stages)
 
     def test_case_7_bytes(self):
         expected = struct.pack(
-            "<10H6H4i2H2H2HiBiBiBH", 20, 32, 52, 4, 56, 4, 60, 15, 75, 2, 4, 2, 1, 1, 1, 1, 10, 1, 3, 2, 3, 2,
-            1, 2, 2, 1, 5, 0, 5, 0, 5, 0, 2,
+            "<10H6H4i2H2B2H2HiBiBiBH", 20, 34, 54, 4, 58, 4, 62, 15, 77, 2, 4, 2, 1, 1, 1, 1, 10, 1, 3, 2, 3, 2,
+            0, 0, 1, 2, 2, 1, 5, 0, 5, 0, 5, 0, 3,
         )
         self.assertEqual(self.made(unit(), PRICES), expected)
+
+    def test_stages(self):
+        """The two bytes after h; a key that is left out is 0."""
+        for changes, stages in [
+            ({}, b"\0\0"), ({"start_up_stage": "0", "shut_down_stage": "0"}, b"\0\0"),
+            ({"initial": "1", "elapsed": "1", "start_up_stage": "1"}, b"\1\0"),
+            ({"initial": "1", "elapsed": "3", "shut_down_stage": "2", "start_up_stage": "0"}, b"\0\2"),
+        ]:
+            made = self.made(unit(**changes), PRICES)
+            self.assertEqual(made[52:54], stages)
+            case = giqapsun.read(made)
+            self.assertEqual(bytes((case.upstage, case.downstage)), stages)
 
     def test_known_days(self):
         rows = list(known_days())
@@ -36,12 +49,12 @@ class Made(ToolTest):
             csv = "hour,price_mills,order\n" + "".join(f"{k},{p},{o}\n" for k, (p, o) in enumerate(hours, 1))
             toml = unit(initial=initial, elapsed=elapsed, mindown=down)
             start = struct.pack(
-                "<10H6H4i2H2H2H", 20, 32, 52, 4, 56, 4, 60, 5 * len(hours), 60 + 5 * len(hours), 2, 4, 2, 1, 1, 1,
-                int(down), 10, 1, 3, 2, int(initial), int(elapsed), 1, 2, 2, 1,
+                "<10H6H4i2H2B2H2H", 20, 34, 54, 4, 58, 4, 62, 5 * len(hours), 62 + 5 * len(hours), 2, 4, 2, 1, 1, 1,
+                int(down), 10, 1, 3, 2, int(initial), int(elapsed), 0, 0, 1, 2, 2, 1,
             )
             middle = b"".join(struct.pack("<iB", int(price), ORDERS[order]) for price, order in hours)
             with self.subTest(case=name):
-                self.assertEqual(self.made(toml, csv), start + middle + b"\2\0")
+                self.assertEqual(self.made(toml, csv), start + middle + b"\3\0")
 
     def test_dollars_are_exact(self):
         for dollars, mills in [
@@ -118,6 +131,7 @@ class UnitFaults(ToolTest):
             ("start_up", "rise"), ("shut_down", "fall"), ("F_dollars", "variable_dollars"),
             ("A_mills", "fixed_mills"), ("B_dollars", "startcost_dollars"), ("C_mills", "stopcost_mills"),
             ("F", "variable_dollars or variable_mills"), ("stopcost", "stopcost_dollars or stopcost_mills"),
+            ("upstage", "start_up_stage"), ("downstage", "shut_down_stage"), ("startup_stage", "start_up_stage"),
         ]:
             self.faulty(unit(**{key: "1"}), f"u.toml:15: {key}: no such key; it is {right}")
 
@@ -134,6 +148,8 @@ class UnitFaults(ToolTest):
         ]:
             self.faulty(unit(capacity=value), f"u.toml:1: capacity: {what}")
         self.faulty(unit(fixed_mills="1.5"), "u.toml:8: fixed_mills: 1.5 is not a whole number")
+        self.faulty(unit(start_up_stage='"1"'), "u.toml:15: start_up_stage: '1' is not a whole number")
+        self.faulty(unit(shut_down_stage="true"), "u.toml:15: shut_down_stage: true is not a whole number")
 
     def test_dollars(self):
         decimals = "is not an amount in dollars with up to three decimals"
@@ -234,7 +250,7 @@ class Refused(ToolTest):
             self.refused(6, text, unit(**changes), place)
 
     def test_opening(self):
-        text = "h outside 1 to 10,000; p(0) neither 0 nor from minimum to capacity; p(0) above 0 with h below UD"
+        text = texts("refusals.tsv")[7]
         self.refused(7, text, unit(elapsed="10001"), "u.toml:12: elapsed: 10,001, from 1 to 10,000 allowed")
         self.refused(7, text, unit(elapsed="0"), "u.toml:12: elapsed: 0, from 1 to 10,000 allowed")
         self.refused(7, text, unit(initial="1"), "u.toml:11: initial: 1, 0 or from 2 to 4 allowed")
@@ -244,6 +260,43 @@ class Refused(ToolTest):
             "u.toml:12: elapsed: 1, 2 or more (the outputs of rise) allowed with initial above 0",
         )
 
+    def test_stages(self):
+        """7 of an opening inside a sequence: the stage, p(0) and h."""
+        text = texts("refusals.tsv")[7]
+        inside = {"minimum": "3", "rise": "[1, 2, 3]", "fall": "[3, 2, 1]"}
+        rising = "0 or from 1 to 2 allowed with 3 outputs of rise"
+        falling = "0 or from 2 to 3 allowed with 3 outputs of fall"
+        for changes, place in [
+            ({"start_up_stage": "1", "shut_down_stage": "2"},
+             "u.toml:16: shut_down_stage: 2, 0 allowed with a start-up stage of 1"),
+            ({"start_up_stage": "3"}, f"u.toml:15: start_up_stage: 3, {rising}"),
+            ({"start_up_stage": "-1"}, f"u.toml:15: start_up_stage: -1, {rising}"),
+            ({"start_up_stage": "1000"}, f"u.toml:15: start_up_stage: 1,000, {rising}"),
+            ({"rise": "[3]", "start_up_stage": "1"}, "u.toml:15: start_up_stage: 1, 0 allowed with 1 output of rise"),
+            ({"shut_down_stage": "1"}, f"u.toml:15: shut_down_stage: 1, {falling}"),
+            ({"shut_down_stage": "4"}, f"u.toml:15: shut_down_stage: 4, {falling}"),
+            ({"fall": "[3]", "shut_down_stage": "2"}, "u.toml:15: shut_down_stage: 2, 0 allowed with 1 output of fall"),
+            ({"initial": "3", "start_up_stage": "2"}, "u.toml:11: initial: 3, 2 allowed in stage 2 of a start-up"),
+            ({"initial": "2", "elapsed": "3", "start_up_stage": "2"},
+             "u.toml:12: elapsed: 3, 2 allowed in stage 2 of a start-up"),
+            ({"initial": "0", "elapsed": "1", "start_up_stage": "2"},
+             "u.toml:11: initial: 0, 2 allowed in stage 2 of a start-up\n"
+             "u.toml:12: elapsed: 1, 2 allowed in stage 2 of a start-up"),
+            ({"initial": "2", "elapsed": "9", "shut_down_stage": "3"},
+             "u.toml:11: initial: 2, 1 allowed in stage 3 of a shut-down"),
+            ({"initial": "1", "elapsed": "4", "shut_down_stage": "3"},
+             "u.toml:12: elapsed: 4, 5 or more allowed in stage 3 of a shut-down"),
+            ({"initial": "1", "elapsed": "10001", "shut_down_stage": "3"},
+             "u.toml:12: elapsed: 10,001, from 1 to 10,000 allowed"),
+            ({"initial": "2", "elapsed": "9"}, "u.toml:11: initial: 2, 0 or from 3 to 4 allowed"),
+        ]:
+            self.refused(7, text, unit(**{**inside, **changes}), place)
+        for changes in (
+            {"initial": "2", "elapsed": "2", "start_up_stage": "2"},
+            {"initial": "1", "elapsed": "5", "shut_down_stage": "3"},
+            {"initial": "2", "elapsed": "10000", "shut_down_stage": "2"},
+        ):
+            self.made(unit(**{**inside, **changes}), PRICES)
 
     def test_prices(self):
         """Hour, value and limit, and the line; also for a price that no record holds."""

@@ -1,6 +1,8 @@
 """case best --plot: what the picture holds."""
 
-from tool import BELOW_ZERO, OLD_SOURCE, SOURCE, SOURCE_LIST, SVG, PictureTest, file_of
+from tool import (
+    BELOW_ZERO, EVENING, MORNING, OLD_SOURCE, SECOND_SOURCE, SOURCE, SOURCE_LIST, SVG, PictureTest, file_of,
+)
 
 
 class Plot(PictureTest):
@@ -32,12 +34,24 @@ class Plot(PictureTest):
         ticks = [text for text in picture.iter(SVG + "text") if text.get("text-anchor") == "end" and text.text == "0"]
         return next(float(tick.get("y")) - 4 for tick in ticks if 364 <= float(tick.get("y")) - 4 <= 494)
 
-    def test_old_form(self):
-        """Both forms of a case have the same picture."""
+    def test_other_forms(self):
+        """The forms of a case have the same picture."""
         self.picture(SOURCE)
         drawn = (self.folder / "p.svg").read_bytes()
-        self.picture(OLD_SOURCE)
-        self.assertEqual((self.folder / "p.svg").read_bytes(), drawn)
+        for data in (SECOND_SOURCE, OLD_SOURCE):
+            self.picture(data)
+            self.assertEqual((self.folder / "p.svg").read_bytes(), drawn)
+
+    def test_sequences_at_the_ends(self):
+        """The stage that a day opens in and the one that it closes in, below the outputs on their own sides."""
+        opens, closes = "opens in stage 2 of 3 of a shut-down", "closes in stage 2 of 3 of a shut-down, stop at hour 26"
+        for data, anchor, words in ((EVENING, "end", closes), (MORNING, "start", opens)):
+            picture = self.picture(data)
+            notes = [text for text in picture.iter(SVG + "text") if (text.text or "").startswith(("opens", "closes"))]
+            self.assertEqual([(note.get("text-anchor"), note.text) for note in notes], [(anchor, words)])
+            self.assertTrue(306 + 19 < float(notes[0].get("y")) < 364 - 12)
+        self.assertEqual(len(list(picture.iter(SVG + "circle"))), 25)
+        self.assertEqual([words for words in self.texts(self.picture(SOURCE)) if "stage" in words], [])
 
     def test_below_zero(self):
         """Prices below 0 stand below the line of 0, which has its axis; a spike is cut, marked and counted."""

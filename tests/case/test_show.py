@@ -6,10 +6,13 @@ import json
 import random
 from dataclasses import asdict
 
-from tool import BELOW_ZERO, CASE_7, OLD_CASE_7, OLD_SOURCE, SOURCE, ToolTest, file_of, giqapsun, small
+from tool import (
+    BELOW_ZERO, CASE_7, EVENING, MORNING, OLD_CASE_7, READ_ONLY, SECOND_CASE_7, SOURCE, ToolTest, file_of, giqapsun,
+    random_opening, small,
+)
 
 CASE_7_TEXT = """\
-form                2               of the file, with signed 32-bit prices
+form                3               of the file, with stages and signed 32-bit prices
 capacity            4 MW
 minimum             2 MW            minimum output
 rampup              1 MW per hour   ramp-up limit RU
@@ -45,12 +48,26 @@ class Shown(ToolTest):
     def test_case_7(self):
         self.assertEqual(self.shown(CASE_7), CASE_7_TEXT)
 
-    def test_old_form(self):
+    def test_other_forms(self):
         """The same text under another form."""
-        form, *lines = self.shown(OLD_CASE_7).splitlines(keepends=True)
-        said = "of the file, with 16-bit prices; form 2 is the one that is written\n"
-        self.assertEqual(form, f"form              old               {said}")
-        self.assertEqual(lines, CASE_7_TEXT.splitlines(keepends=True)[1:])
+        for data, named, prices in ((SECOND_CASE_7, "  2", "signed 32-bit"), (OLD_CASE_7, "old", "16-bit")):
+            form, *lines = self.shown(data).splitlines(keepends=True)
+            said = f"of the file, with {prices} prices; form 3 is the one that is written\n"
+            self.assertEqual(form, f"form              {named}               {said}")
+            self.assertEqual(lines, CASE_7_TEXT.splitlines(keepends=True)[1:])
+
+    def test_stages(self):
+        """The stage that a day opens in, and nothing of one that it does not."""
+        text = self.shown(MORNING)
+        self.assertIn("elapsed            17 hours         h, hours on-line before hour 1\n"
+                      "downstage           2               the day opens in stage 2 of 3 of a shut-down\n"
+                      "rise  ", text)
+        self.assertNotIn("upstage", text)
+        text = self.shown(file_of(initial=1, elapsed=1, upstage=1))
+        self.assertIn("elapsed             1 hours         h, hours on-line before hour 1\n"
+                      "upstage             1               the day opens in stage 1 of 2 of a start-up\n"
+                      "rise  ", text)
+        self.assertNotIn("downstage", text)
 
     def test_prices_below_zero(self):
         """Minus signs, and columns that stay as they are for the longest price."""
@@ -72,7 +89,9 @@ read by the library
 
     def test_json(self):
         """The record itself, under the record's names."""
-        for data, form in ((CASE_7, 2), (SOURCE, 2), (BELOW_ZERO, 2), (OLD_CASE_7, "old"), (OLD_SOURCE, "old")):
+        for data, form in (
+            (CASE_7, 3), (SOURCE, 3), (BELOW_ZERO, 3), (MORNING, 3), (SECOND_CASE_7, 2), (OLD_CASE_7, "old")
+        ):
             answer = json.loads(self.shown(data, "--json"))
             self.assertEqual(list(answer), ["form", "case", "read_by"])
             self.assertEqual((answer["form"], answer["read_by"]), (form, "library"))
@@ -81,7 +100,7 @@ read by the library
 
     def test_csv(self):
         rows = list(csv.DictReader(io.StringIO(self.shown(file_of(orders=[0, 1, 2]), "--csv"))))
-        self.assertEqual(rows.pop(0), {"field": "form", "entry": "", "value": "2"})
+        self.assertEqual(rows.pop(0), {"field": "form", "entry": "", "value": "3"})
         self.assertTrue(self.shown(OLD_CASE_7, "--csv").startswith("field,entry,value\nform,,old\n"))
         self.assertEqual(rows[0], {"field": "capacity", "entry": "", "value": "4"})
         self.assertEqual(rows[-1], {"field": "orders", "entry": "3", "value": "2"})
@@ -111,18 +130,30 @@ class MadeAgain(ToolTest):
         return self.answered("make", "u.toml", "p.csv")
 
     def test_stored_cases(self):
-        for data in (BELOW_ZERO, CASE_7, SOURCE):
+        for data in (BELOW_ZERO, CASE_7, EVENING, MORNING, SOURCE):
             self.assertEqual(self.again(data), data)
-        for old, data in ((OLD_CASE_7, CASE_7), (OLD_SOURCE, SOURCE)):
+        for old, data in READ_ONLY:
             self.assertEqual(self.again(old), data)
+        self.again(SOURCE)
         toml = (self.folder / "u.toml").read_text()
+        self.assertNotIn("stage", toml)
         self.assertIn("rampup = 60                               # ramp-up limit RU, MW per hour\n", toml)
         self.assertIn("startcost_dollars = 850.000               # start-up cost B, per start\n", toml)
         self.assertTrue((self.folder / "p.csv").read_text().startswith("hour,price_dollars,order\n1,26.950,free\n"))
 
+    def test_stages(self):
+        """A stage has a line of its own, with what it means."""
+        self.again(MORNING)
+        stage = "shut_down_stage = 2                       # the day opens in stage 2 of 3 of a shut-down\n"
+        self.assertIn(stage, (self.folder / "u.toml").read_text())
+        self.again(file_of(initial=1, elapsed=1, upstage=1))
+        stage = "start_up_stage = 1                        # the day opens in stage 1 of 2 of a start-up\n"
+        self.assertIn(stage, (self.folder / "u.toml").read_text())
+
     def test_random_cases(self):
         """Any case within the limits."""
-        number = random.Random(1).randint
+        chance = random.Random(1)
+        number = chance.randint
         for _ in range(30):
             capacity = number(20, 400)
             minimum = number(10, capacity)
@@ -130,12 +161,12 @@ class MadeAgain(ToolTest):
             case = giqapsun.Case(
                 capacity=capacity, minimum=minimum, rampup=number(1, 400), rampdown=number(1, 400),
                 minup=number(1, 8), mindown=number(1, 8), variable=number(0, 10**6), fixed=number(0, 10**8),
-                startcost=number(0, 10**8), stopcost=number(0, 10**8), initial=number(minimum, capacity),
-                elapsed=number(8, 10_000), rise=[*range(1, number(1, 8)), minimum],
+                startcost=number(0, 10**8), stopcost=number(0, 10**8), rise=[*range(1, number(1, 8)), minimum],
                 fall=[minimum, *range(number(1, 8) - 1, 0, -1)], prices=[number(-(10**7), 10**7) for _ in range(hours)],
-                orders=[number(0, 2) for _ in range(hours)],
+                orders=[number(0, 2) for _ in range(hours)], initial=number(minimum, capacity),
+                elapsed=number(8, 10_000),
             )
-            data = giqapsun.write(case)
+            data = giqapsun.write(random_opening(chance, case) if chance.random() < 0.5 else case)
             self.assertEqual(self.again(data), data)
 
     def test_one_of_the_two(self):

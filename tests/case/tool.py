@@ -29,8 +29,19 @@ from module import giqapsun  # noqa: E402
 CASE_7 = (CASES / "case7.case").read_bytes()
 SOURCE = (CASES / "source.case").read_bytes()
 BELOW_ZERO = (CASES / "below_zero.case").read_bytes()
+EVENING = (CASES / "evening.case").read_bytes()
+MORNING = (CASES / "morning.case").read_bytes()
+SECOND_CASE_7 = (CASES / "old/form2/case7.case").read_bytes()
+SECOND_SOURCE = (CASES / "old/form2/source.case").read_bytes()
+SECOND_BELOW_ZERO = (CASES / "old/form2/below_zero.case").read_bytes()
 OLD_CASE_7 = (CASES / "old/case7.case").read_bytes()
 OLD_SOURCE = (CASES / "old/source.case").read_bytes()
+
+# each stored case in the forms that are only read, and in the one that is written
+READ_ONLY = (
+    (OLD_CASE_7, CASE_7), (OLD_SOURCE, SOURCE), (SECOND_CASE_7, CASE_7), (SECOND_SOURCE, SOURCE),
+    (SECOND_BELOW_ZERO, BELOW_ZERO),
+)
 SOURCE_LIST = [
     120, 112, 70, 30, 0, 0, 0, 37, 75, 112, 172, 232, 292, 294, 294, 294, 294, 294, 294, 294, 294, 244, 194,
     144,
@@ -38,6 +49,14 @@ SOURCE_LIST = [
 BELOW_ZERO_LIST = [
     140, 80, 120, 180, 240, 240, 200, 140, 80, 80, 40, 0, 0, 30, 60, 80, 140, 200, 240, 240, 240, 240, 180, 120,
 ]
+EVENING_LIST = [
+    120, 112, 70, 30, 0, 0, 0, 37, 75, 112, 172, 232, 292, 294, 294, 294, 294, 294, 294, 262, 212, 162, 112, 70,
+]
+
+# what is said of that list
+EVENING_CLOSES = (
+    "closes in stage 2 of 3 of a shut-down, stop at hour 26, 2 hours after the last; C belongs to the day that holds it"
+)
 
 # case 7 of the known days, key by key
 UNIT = {
@@ -93,6 +112,23 @@ def list_text(outputs):
     return "hour,output\n" + "".join(f"{k},{output}\n" for k, output in enumerate(outputs, 1))
 
 
+def random_opening(chance, case):
+    """The case with an opening that 7 allows: off-line, on-line, or inside a sequence if there is one to be in."""
+    sequences = [name for name, outputs in (("upstage", case.rise), ("downstage", case.fall)) if len(outputs) > 1]
+    match chance.choice(("off", "on", *sequences)):
+        case "upstage":
+            stage = chance.randrange(1, len(case.rise))
+            return replace(case, initial=case.rise[stage - 1], elapsed=stage, upstage=stage)
+        case "downstage":
+            stage = chance.randint(2, len(case.fall))
+            hours = len(case.rise) + stage - 1 + chance.randint(0, 2)
+            return replace(case, initial=case.fall[stage - 1], elapsed=hours, downstage=stage)
+        case "on":
+            hours = len(case.rise) + chance.randint(0, 2)
+            return replace(case, initial=chance.randint(case.minimum, case.capacity), elapsed=hours)
+    return replace(case, initial=0, elapsed=chance.randint(1, 4))
+
+
 def random_list(chance):
     """A small unit and a list near its outputs."""
     number = chance.randint
@@ -101,16 +137,15 @@ def random_list(chance):
     rise = sorted({*(number(1, minimum) for _ in range(2)), minimum})
     fall = sorted({*(number(1, minimum) for _ in range(2)), minimum}, reverse=True)
     hours = number(1, 6)
-    case = small(
+    case = random_opening(chance, small(
         capacity=capacity, minimum=minimum, rampup=number(1, 3), rampdown=chance.choice((1, 2, 3, 400)),
-        minup=number(1, 3), mindown=number(1, 3), initial=chance.choice((0, number(minimum, capacity))),
-        elapsed=number(len(rise), 4), rise=rise, fall=fall, prices=[5] * hours,
+        minup=number(1, 8), mindown=number(1, 3), rise=rise, fall=fall, prices=[5] * hours,
         orders=[chance.choice((0, 0, 0, 0, 1, 2)) for _ in range(hours)],
-    )
-    if chance.random() < 0.5:
-        return case, [chance.choice((0, 0, *rise, number(0, capacity + 1))) for _ in range(hours)]
-    free = replace(case, orders=[0] * hours, prices=[number(-20, 40) for _ in range(hours)])
+    ))
+    free = replace(case, minup=1, orders=[0] * hours, prices=[number(-20, 40) for _ in range(hours)])
     outputs = giqapsun.best(free).outputs
+    if chance.random() < 0.5:
+        return case, [chance.choice((0, 0, *rise, *fall, number(0, capacity + 1))) for _ in range(hours)]
     if chance.random() < 0.8:
         outputs[number(0, hours - 1)] = number(0, capacity + 1)
     return case, outputs

@@ -1,28 +1,10 @@
 /*
  * A library that is wrong in one way, named by the variable WRONG: each call gives the answer of a right library,
- * whose functions are called right_read and so on here, and one of them then does something else.
+ * whose functions are called right_read and so on here, and one of them then does something else. What is wrong about
+ * days that open and close inside a sequence stands in stages.c.
  */
 #define _POSIX_C_SOURCE 200809L
-#include "giqapsun.h"
-#include <stdlib.h>
-#include <string.h>
-
-struct giqapsun_reading right_read(const uint8_t *file, size_t n);
-struct giqapsun_written right_write(struct giqapsun_case c, uint8_t *bytes, size_t n);
-struct giqapsun_verdict right_check(struct giqapsun_case c, const uint16_t *list, size_t n);
-struct giqapsun_plan right_best(struct giqapsun_case c, int64_t *work, size_t n, uint16_t *outputs, size_t m);
-struct giqapsun_choice right_better(struct giqapsun_case c, const uint16_t *first, size_t n, const uint16_t *second,
-                                    size_t m);
-struct giqapsun_plan right_best_by_calendar(struct giqapsun_case c, const uint16_t *on, size_t a, const uint16_t *off,
-                                            size_t b, uint16_t first, uint16_t hours, int64_t *work, size_t n,
-                                            uint16_t *outputs, size_t m);
-
-/* Whether the library is wrong in this way. */
-static int wrong(const char *way)
-{
-    const char *named = getenv("WRONG");
-    return named != NULL && strcmp(named, way) == 0;
-}
+#include "wrong.h"
 
 /* Uses up the stack, as deep as `depth` says. */
 static uint32_t deeper(volatile uint32_t depth)
@@ -35,35 +17,11 @@ static uint32_t deeper(volatile uint32_t depth)
 /* Most mills of a price, either way. */
 #define MOST 10000000
 
-/* Number i of those at the head of a file: offset and length of each pair in turn. */
-static unsigned head(const uint8_t *file, size_t i)
-{
-    return file[2 * i] + 256u * file[2 * i + 1];
-}
-
 /* Changes number i of the head. */
 static void set_head(uint8_t *file, size_t i, size_t number)
 {
     file[2 * i] = (uint8_t)number;
     file[2 * i + 1] = (uint8_t)(number >> 8);
-}
-
-/* What a refused reading gives. */
-static struct giqapsun_reading refused(uint32_t number)
-{
-    struct giqapsun_reading reading;
-    memset(&reading, 0, sizeof reading);
-    reading.number = number;
-    return reading;
-}
-
-/* Reading as if the form number were 2. */
-static struct giqapsun_reading read_as_form_2(const uint8_t *file, size_t n)
-{
-    uint8_t copy[GIQAPSUN_FILE_MOST];
-    memcpy(copy, file, n);
-    memcpy(copy + n - 2, "\2", 2);
-    return right_read(copy, n);
 }
 
 /* Reading of a file that is wrong about its form. */
@@ -72,10 +30,10 @@ static struct giqapsun_reading read_wrong_form(const uint8_t *file, size_t n, st
     if (wrong("pairs") && n >= 16 && n < 20 && head(file, 0) == 20)
         right.number += *(volatile const uint8_t *)(file + 19) == 0;
     if (wrong("form") && right.number == 12)
-        return read_as_form_2(file, n);
+        return read_as(file, n, 3);
     if (right.number != 2 || head(file, 0) != 20)
         return right;
-    if (wrong("twelve") && head(file, 9) == 2 && head(file + n - 2, 0) != 2)
+    if (wrong("twelve") && head(file, 9) == 2 && form_of(file, n) != 2 && form_of(file, n) != 3)
         return refused(12);
     if (wrong("section") && head(file, 9) != 2)
         return refused(12);
@@ -133,24 +91,28 @@ struct giqapsun_reading giqapsun_read(const uint8_t *file, size_t n)
         reading = read_wrong_count(file, n, reading);
     if (wrong("stack") && reading.number == 0)
         reading.number = deeper(UINT32_MAX);
-    return reading.number == 0 ? read_wrong_sign(file, reading) : read_wrong_form(file, n, reading);
+    reading = reading.number == 0 ? read_wrong_sign(file, reading) : read_wrong_form(file, n, reading);
+    return read_wrong_stages(file, n, reading);
 }
 
-/* Turns a file of form 2 into one of the old form, and gives its length. */
+/* Turns a file of form 3 into one of the old form, and gives its length. */
 static size_t as_old(struct giqapsun_case c, uint8_t *bytes)
 {
-    size_t sections = 32 + 2 * (c.rises + c.falls);
-    memmove(bytes + 16, bytes + 20, sections);
-    for (size_t i = 0; i < 4; i++)
-        bytes[4 * i] -= 4;
-    bytes[14] = (uint8_t)(3 * c.hours);
+    size_t trajectories = 2 * (c.rises + c.falls), hours = 48 + trajectories;
+    memmove(bytes + 16, bytes + 20, 32);
+    memmove(bytes + 48, bytes + 54, trajectories);
+    set_head(bytes, 0, 16);
+    set_head(bytes, 1, 32);
+    for (size_t i = 2; i < 8; i += 2)
+        set_head(bytes, i, head(bytes, i) - 6);
+    set_head(bytes, 7, 3 * c.hours);
     for (size_t k = 0; k < c.hours; k++) {
-        uint8_t *hour = bytes + 16 + sections + 3 * k;
+        uint8_t *hour = bytes + hours + 3 * k;
         hour[0] = (uint8_t)c.prices[k];
         hour[1] = (uint8_t)(c.prices[k] >> 8);
         hour[2] = c.orders[k];
     }
-    return 16 + sections + 3 * c.hours;
+    return hours + 3 * c.hours;
 }
 
 struct giqapsun_written giqapsun_write(struct giqapsun_case c, uint8_t *bytes, size_t n)
@@ -164,7 +126,7 @@ struct giqapsun_written giqapsun_write(struct giqapsun_case c, uint8_t *bytes, s
         exit(0);
     if (wrong("refusal") && written.number == 3)
         written.number = 4;
-    return written;
+    return write_wrong_stages(bytes, written);
 }
 
 struct giqapsun_verdict giqapsun_check(struct giqapsun_case c, const uint16_t *list, size_t n)
@@ -177,7 +139,7 @@ struct giqapsun_verdict giqapsun_check(struct giqapsun_case c, const uint16_t *l
         verdict.rule = 5;
     if (wrong("narrow"))
         verdict.profit = (int32_t)verdict.profit;
-    return verdict;
+    return check_wrong_stages(c, list, verdict);
 }
 
 struct giqapsun_plan giqapsun_best(struct giqapsun_case c, int64_t *work, size_t n, uint16_t *outputs, size_t m)
@@ -198,11 +160,11 @@ struct giqapsun_plan giqapsun_best(struct giqapsun_case c, int64_t *work, size_t
         plan.profit += 1;
     if (wrong("outside") && plan.number == 0)
         outputs[m] = 0;
-    return plan;
+    return best_wrong_stages(c, (struct lent){work, n, outputs, m}, plan);
 }
 
 /* What a list of T outputs would earn, whatever rules it breaks. */
-static int64_t earned(const struct giqapsun_case *c, const uint16_t *list)
+int64_t wrong_earned(const struct giqapsun_case *c, const uint16_t *list)
 {
     int64_t sum = 0;
     for (size_t k = 0; k < c->hours; k++) {
@@ -265,10 +227,11 @@ struct giqapsun_choice giqapsun_better(struct giqapsun_case c, const uint16_t *f
         return right_better(c, first, n, second, n);
     if (choice.which == 0)
         return choice;
+    choice = choose_wrong_stages(c, first, second, choice);
     if (wrong("written") && choice.which == 2)
         ((uint16_t *)second)[0] ^= 1;
     int identical = memcmp(first, second, n * sizeof *first) == 0;
-    int64_t one = earned(&c, first), other = earned(&c, second);
+    int64_t one = wrong_earned(&c, first), other = wrong_earned(&c, second);
     if (wrong("identical") && identical)
         choice.which = 2;
     if (wrong("higher") && !identical && tied(c, first, second))
@@ -428,6 +391,8 @@ struct giqapsun_plan giqapsun_best_by_calendar(struct giqapsun_case c, const uin
     struct calendar by = {on, off, a, b, first, hours, work, n, outputs, m};
     struct giqapsun_plan plan = right_by(c, &by);
     uint32_t number = wrong_calendar(c, &by, plan.number);
+    if (wrong("unstaged") && (number == 0 || number == 11) && (c.upstage > 0 || c.downstage > 0))
+        number = 7;
     if (number != plan.number)
         return (struct giqapsun_plan){number, 0};
     int searched = number == 0 || number == 11;

@@ -63,6 +63,8 @@ int main(void)
     FIELD(case, stopcost);
     FIELD(case, initial);
     FIELD(case, elapsed);
+    FIELD(case, upstage);
+    FIELD(case, downstage);
     ARRAY(case, rise);
     ARRAY(case, fall);
     ARRAY(case, prices);

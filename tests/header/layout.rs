@@ -58,7 +58,7 @@ fn main() {
     println!("OFF {}", boundary::OFF);
     let case = Case::default();
     layout!("case", Case, case, capacity minimum rampup rampdown minup mindown variable fixed startcost
-        stopcost initial elapsed rise fall prices orders rises falls hours);
+        stopcost initial elapsed upstage downstage rise fall prices orders rises falls hours);
     layout!("reading", Reading, Reading { number: 0, c: case }, number c);
     layout!("written", Written, Written { number: 0, length: 0 }, number length);
     layout!("verdict", Verdict, Verdict { number: 0, hour: 0, rule: 0, profit: 0 }, number hour rule profit);

@@ -1,7 +1,8 @@
-"""What the program best_day prints for an input, byte for byte (document 01, "A program reads a case"; request F-2 for
-the two forms of a file)."""
+"""What the program best_day prints for an input, byte for byte (document 01, "A program reads a case"; requests F-2 and
+F-5 for the forms of a file and for days that open and close inside a sequence)."""
 
 import os
+import re
 import struct
 import subprocess
 import unittest
@@ -13,8 +14,16 @@ CASES = ROOT / "cases"
 CASE7 = (CASES / "case7.case").read_bytes()
 SOURCE = (CASES / "source.case").read_bytes()
 BELOW_ZERO = (CASES / "below_zero.case").read_bytes()
+EVENING = (CASES / "evening.case").read_bytes()
+MORNING = (CASES / "morning.case").read_bytes()
+SECOND_CASE7 = (CASES / "old/form2/case7.case").read_bytes()
+SECOND_SOURCE = (CASES / "old/form2/source.case").read_bytes()
+SECOND_BELOW_ZERO = (CASES / "old/form2/below_zero.case").read_bytes()
 OLD_CASE7 = (CASES / "old/case7.case").read_bytes()
 OLD_SOURCE = (CASES / "old/source.case").read_bytes()
+
+# case 7 in each form
+FORMS = (CASE7, SECOND_CASE7, OLD_CASE7)
 DAY7 = b"profit -53\n1 2 5\n2 1 3\n3 0 1\n"
 
 # the price furthest from 0 either way
@@ -27,10 +36,11 @@ def printed(data):
     return done.stdout + done.stderr
 
 
-def long_hours(size):
+def long_hours(data, size):
     """A file of so many bytes whose chain holds: the sections of case 7, with hours up to the form number."""
-    pairs = struct.pack("<10H", 20, 32, 52, 4, 56, 4, 60, size - 62, size - 2, 2)
-    return (pairs + CASE7[20:60]).ljust(size - 2, b"\0") + b"\2\0"
+    hours = struct.unpack_from("<H", data, 12)[0]
+    pairs = data[:14] + struct.pack("<3H", size - hours - 2, size - 2, 2)
+    return (pairs + data[20:hours]).ljust(size - 2, b"\0") + data[-2:]
 
 
 def old_long_hours(size):
@@ -39,10 +49,10 @@ def old_long_hours(size):
     return (pairs + OLD_CASE7[16:]).ljust(size, b"\0")
 
 
-def changed(data, place, form, value):
-    """A file with one number changed."""
+def changed(data, place, form, *values):
+    """A file with numbers changed from a place on."""
     data = bytearray(data)
-    struct.pack_into(form, data, place, value)
+    struct.pack_into(form, data, place, *values)
     return bytes(data)
 
 
@@ -50,29 +60,40 @@ def priced(*prices):
     """The file of case 7 with other prices."""
     data = CASE7
     for hour, price in enumerate(prices):
-        data = changed(data, 60 + 5 * hour, "<i", price)
+        data = changed(data, 62 + 5 * hour, "<i", price)
     return data
+
+
+def opened(initial, elapsed, upstage, downstage):
+    """The file of case 7 with another opening."""
+    return changed(CASE7, 48, "<2H2B", initial, elapsed, upstage, downstage)
+
+
+def shortened(data, hours):
+    """The first hours of such a file."""
+    end = 62 + 5 * hours
+    return changed(data[:end], 14, "<2H", 5 * hours, end) + b"\3\0"
 
 
 class LimitTest(unittest.TestCase):
     """Inputs about the limit whose chain holds. Their hours are not 1 to 48 entries, so a file is refused by 2."""
 
     def test_up_to_the_limit_an_input_is_read_as_a_file(self):
-        for size in (307, 4095, 4096):
+        for data, size in ((CASE7, 309), (SECOND_CASE7, 307), (CASE7, 4095), (CASE7, 4096), (SECOND_CASE7, 4096)):
             with self.subTest(size=size):
-                self.assertEqual(printed(long_hours(size)), b"refused 2\n")
+                self.assertEqual(printed(long_hours(data, size)), b"refused 2\n")
         for size in (203, 4095, 4096):
             with self.subTest(old=size):
                 self.assertEqual(printed(old_long_hours(size)), b"refused 2\n")
 
     def test_above_the_limit_an_input_is_refused_by_1(self):
         for size in (4097, 5000, 65535):
-            for data in (long_hours(size), old_long_hours(size)):
+            for data in (long_hours(CASE7, size), long_hours(SECOND_CASE7, size), old_long_hours(size)):
                 with self.subTest(size=size, first=data[0]):
                     self.assertEqual(printed(data), b"refused 1\n")
 
     def test_a_case_with_bytes_after_it_is_refused_by_1(self):
-        for data in (CASE7, OLD_CASE7):
+        for data in FORMS:
             for size in (len(data) + 1, 4096, 4097, 5000):
                 with self.subTest(first=data[0], size=size):
                     self.assertEqual(printed(data.ljust(size, b"\0")), b"refused 1\n")
@@ -90,12 +111,12 @@ class RefusalTest(unittest.TestCase):
         self.refused(1, b"")
 
     def test_an_input_that_is_cut(self):
-        for data in (CASE7, OLD_CASE7):
+        for data in FORMS:
             for size in (1, 15, 16, 19, 20, len(data) - 1):
                 self.refused(1, data[:size])
 
-    def test_a_first_offset_of_neither_form(self):
-        for data in (CASE7, OLD_CASE7):
+    def test_a_first_offset_of_no_form(self):
+        for data in FORMS:
             for offset in (0, 4, 15, 17, 18, 19, 21, 24, 32, 36 - data[0], 256 + data[0]):
                 self.refused(1, changed(data, 0, "<H", offset))
 
@@ -112,11 +133,27 @@ class RefusalTest(unittest.TestCase):
             (6, 52, "<H", 2), (7, 48, "<H", 1), (8, 64, "B", 3), (13, 60, "<i", MOST + 1), (13, 65, "<i", -MOST - 1),
             (13, 70, "<i", -(2**31)), (13, 70, "<i", 2**31 - 1),
         ]:
+            self.refused(number, changed(SECOND_CASE7, place, form, value))
+
+    def test_each_number_of_a_record_in_form_3(self):
+        for number, place, form, value in [
+            (3, 22, "<H", 5), (4, 24, "<H", 0), (5, 32, "<I", 1000001), (5, 36, "<I", 2**31), (5, 44, "<I", 2**32 - 1),
+            (6, 54, "<H", 2), (7, 48, "<H", 1), (7, 52, "B", 1), (7, 53, "B", 2), (8, 66, "B", 3),
+            (13, 62, "<i", MOST + 1), (13, 67, "<i", -MOST - 1), (13, 72, "<i", -(2**31)), (13, 72, "<i", 2**31 - 1),
+        ]:
             self.refused(number, changed(CASE7, place, form, value))
 
+    def test_an_opening_inside_a_sequence(self):
+        # stages that there are not, another output, other hours, both stages
+        for opening in [
+            (2, 2, 2, 0), (3, 9, 255, 0), (2, 1, 1, 0), (1, 2, 1, 0), (2, 9, 0, 1), (1, 9, 0, 3), (2, 9, 0, 2),
+            (1, 2, 0, 2), (1, 10001, 0, 2), (1, 1, 1, 2), (1, 1, 0, 0), (1, 9, 0, 0),
+        ]:
+            self.refused(7, opened(*opening))
+
     def test_the_form_section(self):
-        for form in (0, 1, 3, 256 + 2, 65535):
-            unknown = changed(CASE7, 75, "<H", form)
+        for form in (0, 1, 4, 256 + 2, 256 + 3, 65535):
+            unknown = changed(CASE7, 77, "<H", form)
             self.refused(12, unknown)
             # before every number of the record
             self.refused(12, changed(unknown, 22, "<H", 5))
@@ -125,16 +162,24 @@ class RefusalTest(unittest.TestCase):
         self.refused(2, changed(CASE7, 18, "<H", 3) + b"\0")
         self.refused(2, changed(CASE7, 18, "<H", 0)[:-2])
 
-    def test_an_unknown_form_is_measured_as_form_2(self):
+    def test_an_unknown_form_is_measured_as_form_3(self):
+        # a unit of 32 bytes, which form 2 alone has
+        for form in (0, 1, 3, 4):
+            self.refused(2, changed(SECOND_CASE7, 75, "<H", form))
+        self.refused(2, changed(CASE7, 77, "<H", 2))
         # hours of 9 bytes, three entries of the old form
-        pairs = struct.pack("<10H", 20, 32, 52, 4, 56, 4, 60, 9, 69, 2)
-        for form in (2, 3):
-            self.refused(2, pairs + CASE7[20:60] + OLD_CASE7[56:] + form.to_bytes(2, "little"))
+        pairs = struct.pack("<10H", 20, 34, 54, 4, 58, 4, 62, 9, 71, 2)
+        for form in (2, 3, 4):
+            self.refused(2, pairs + CASE7[20:62] + OLD_CASE7[56:] + form.to_bytes(2, "little"))
 
     def test_no_schedule(self):
         # on-line at 3 MW, ordered off-line in hour 1
-        self.refused(11, changed(CASE7, 64, "B", 2))
+        self.refused(11, changed(CASE7, 66, "B", 2))
+        self.refused(11, changed(SECOND_CASE7, 64, "B", 2))
         self.refused(11, changed(OLD_CASE7, 58, "B", 2))
+        # a shut-down that the day opens in, with its stop at hour 1 after 3 hours on-line; 4 are needed
+        self.refused(11, changed(opened(1, 3, 0, 2), 28, "<H", 4))
+        self.assertNotIn(b"refused", printed(changed(opened(1, 3, 0, 2), 28, "<H", 3)))
 
 
 class DayTest(unittest.TestCase):
@@ -143,15 +188,39 @@ class DayTest(unittest.TestCase):
     def test_case_7(self):
         self.assertEqual(printed(CASE7), DAY7)
 
-    def test_both_forms_print_the_same(self):
-        self.assertEqual(printed(OLD_CASE7), DAY7)
-        self.assertEqual(printed(OLD_SOURCE), printed(SOURCE))
+    def test_every_form_prints_the_same(self):
+        for data in FORMS:
+            self.assertEqual(printed(data), DAY7)
+        for data in (SECOND_SOURCE, OLD_SOURCE):
+            self.assertEqual(printed(data), printed(SOURCE))
+        self.assertEqual(printed(SECOND_BELOW_ZERO), printed(BELOW_ZERO))
         # the greatest price of the old form, and an order
         old = changed(changed(OLD_CASE7, 59, "<H", 65535), 58, "B", 1)
-        self.assertEqual(printed(old), printed(changed(priced(5, 65535, 5), 64, "B", 1)))
+        self.assertEqual(printed(old), printed(changed(priced(5, 65535, 5), 66, "B", 1)))
+
+    def test_a_day_that_opens_in_a_sequence(self):
+        # on PU(1): up to PU(2), then down; B is not of this day
+        self.assertEqual(printed(opened(1, 1, 1, 0)), b"profit %d\n1 2 3\n2 1 3\n3 0 1\n" % (-7 * 5 - 4 - 4))
+        # on PD(2): off-line, with C
+        self.assertEqual(printed(opened(1, 3, 0, 2)), b"profit %d\n1 0 1\n2 0 0\n3 0 0\n" % (-5 - 4))
+
+    def test_a_day_that_closes_in_a_shut_down(self):
+        # cases 4 and 6 of the known days, without C
+        self.assertEqual(printed(shortened(changed(priced(10), 48, "<H", 2), 1)), b"profit -2\n1 1 3\n")
+        self.assertEqual(printed(shortened(CASE7, 2)), b"profit -44\n1 2 5\n2 1 3\n")
+
+    def test_the_days_of_the_page(self):
+        """What docs/readers/control-room.md shows below a command is printed, in its order."""
+        page = (ROOT / "docs/readers/control-room.md").read_text(encoding="utf-8")
+        shown = re.findall(r"\n    target/bin/best_day < cases/(\w+).case\n(?:[^\n]+\n)*\n((?:    .*\n)+)", page)
+        self.assertEqual([name for name, _ in shown], ["evening", "morning"])
+        for name, text in shown:
+            lines = iter(printed((CASES / f"{name}.case").read_bytes()).decode("ascii").splitlines())
+            for line in text.splitlines():
+                self.assertIn(line.removeprefix("    "), lines)
 
     def test_case_7_in_two_writes(self):
-        for data in (CASE7, OLD_CASE7):
+        for data in FORMS:
             with subprocess.Popen([PROGRAM], stdin=subprocess.PIPE, stdout=subprocess.PIPE) as program:
                 for part in (data[:20], data[20:]):
                     program.stdin.write(part)
@@ -187,8 +256,12 @@ class DayTest(unittest.TestCase):
         return outputs
 
     def test_the_source_day(self):
-        for data in (SOURCE, OLD_SOURCE):
+        for data in (SOURCE, SECOND_SOURCE, OLD_SOURCE):
             self.day(data, 33546962, 170)
+
+    def test_the_stored_days_back_to_back(self):
+        self.assertEqual(self.day(EVENING, 36130586, 170)[21:], [162, 112, 70])
+        self.assertEqual(self.day(MORNING, 78477350, 70)[:3], [30, 0, 0])
 
     def test_the_stored_day_below_0(self):
         outputs = self.day(BELOW_ZERO, 1762365500, 110)

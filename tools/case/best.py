@@ -4,10 +4,11 @@ orders, the library alone finds it."""
 import os
 import re
 import subprocess
-from dataclasses import dataclass, replace
+from dataclasses import asdict, dataclass, replace
 from pathlib import Path
 
 from calendars import Calendar
+from ends import closing, stage_of, stop_after
 from faults import Fault, Refused
 from hours import agree, earnings, energies
 from layout import case_of
@@ -45,6 +46,15 @@ class Day:
         case = self.reading.case
         words = (ORDERS[order] for order in case.orders)
         return zip(range(1, len(self.outputs) + 1), words, case.prices, self.outputs, self.energies, self.earnings)
+
+    def closing(self):
+        """A line if the day closes in a shut-down."""
+        return closing(self.reading.case, self.outputs)
+
+    def notes(self):
+        """What a table of hours has no place for: that orders are replaced, and a stop after the day."""
+        yield from self.calendar.replaced() if self.calendar else ()
+        yield from self.closing()
 
 
 def program():
@@ -92,15 +102,22 @@ def _by_calendar(file, data, calendar):
 
 
 def contradiction(case):
-    """What can be said where no list keeps every rule. Without orders a unit can stay as it opens, so it is some of
-    the orders that cannot be kept."""
+    """What can be said where no list keeps every rule. Without orders a unit can stay as it opens, or go on with the
+    sequence that it opens in; so it is some of the orders that cannot be kept, or that sequence is a shut-down which
+    ends too early."""
     state = "on-line" if case.initial else "off-line"
+    stage = stage_of(case, case)
+    inside = f", in {stage}" if stage else ""
     yield from (f"orders: {words}" for words in ordered_hours(case.orders))
-    yield f"opening: initial {case.initial} MW, elapsed {counted(case.elapsed, 'hour')} {state}"
+    yield f"opening: initial {case.initial} MW, elapsed {counted(case.elapsed, 'hour')} {state}{inside}"
     yield (
         f"times: minup {case.minup}, mindown {case.mindown}; a start-up takes {counted(len(case.rise), 'hour')}, "
-        f"a shut-down {len(case.fall)} and ends inside the day"
+        f"a shut-down {len(case.fall)}"
     )
+    if case.downstage:
+        stop = len(case.fall) + 1 - case.downstage
+        hours = counted(case.elapsed + stop - 1, "hour")
+        yield f"the shut-down that the day opens in has its stop at hour {stop}, after {hours} on-line"
     hour = _first_not_kept(case) if built() else None
     if hour is not None:
         yield f"the orders before hour {hour} can be kept together; with that of hour {hour} no list keeps every rule"
@@ -183,7 +200,7 @@ def best_text(day):
         beside = ["window (first+hours)", *windows]
         lines = [f"{line}  {words}".rstrip() for line, words in zip(lines, beside)]
     lines.append(f"total{'':34}  {megawatt_hours(sum(day.energies)):>12}  {profit:>{width}}")
-    lines.append(f"profit {day.profit} half-mills")
+    lines += [f"profit {day.profit} half-mills", *day.closing()]
     if day.calendar is not None:
         lines += [f"calendar {day.calendar.name}: {day.calendar.day}", *day.calendar.replaced()]
     found = "the library" if day.found_by == "library" else f"the program {day.found_by}"
@@ -198,6 +215,8 @@ def best_json(day):
         "profit_half_mills": day.profit,
         "profit_dollars": machine(dollars_of_half_mills(day.profit)),
         "energy_half_mwh": sum(day.energies),
+        "stop_after_day": stop_after(day.reading.case, day.outputs),
+        "opening_after": asdict(giqapsun.opening_after(day.reading.case, day.outputs)),
         **calendar,
         "hours": [dict(zip((*COLUMNS, *WINDOW_COLUMNS), row)) for row in _rows(day)],
         "read_by": day.reading.by,

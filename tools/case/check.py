@@ -2,6 +2,7 @@
 
 from dataclasses import dataclass
 
+from ends import closing, stop_after
 from faults import Refused
 from money import dollars_of_half_mills, machine
 from module import giqapsun
@@ -32,11 +33,17 @@ class Checked:
         """The breach in words."""
         return breach(self.reading.case, self.outputs, self.verdict.hour, self.verdict.rule)
 
+    @property
+    def stop_after(self):
+        """The hour of the stop after the day, None where the list passes and has none, and where it does not pass."""
+        return stop_after(self.reading.case, self.outputs) if self.passes else None
+
     def lines(self):
-        """The verdict for a reader; a breach in words has a line of its own."""
+        """The verdict for a reader; a breach in words has a line of its own, and so has a stop after the day."""
         verdict = self.verdict
         if self.passes:
-            return [f"passes: earns ${dollars_of_half_mills(verdict.profit)} ({verdict.profit} half-mills)"]
+            earns = f"passes: earns ${dollars_of_half_mills(verdict.profit)} ({verdict.profit} half-mills)"
+            return [earns, *closing(self.reading.case, self.outputs)]
         return [f"breaks rule {verdict.rule} at hour {verdict.hour}: {verdict.text}", self.breach()]
 
     def fields(self):
@@ -50,6 +57,7 @@ class Checked:
             "rule": None if passes else verdict.rule,
             "rule_text": None if passes else verdict.text,
             "text": None if passes else self.breach(),
+            "stop_after_day": self.stop_after,
         }
 
 

@@ -10,6 +10,7 @@ from better import better_csv, better_json, better_text, compared
 from calendars import Calendar
 from check import checked, checked_csv, checked_json, checked_text
 from dates import Span, hour_number, iso_date, span_of
+from ends import left
 from faults import Fault, Refused, named
 from files import contents, write
 from lists import read_list
@@ -32,24 +33,26 @@ MAKE = """\
 The unit's file holds one key for each field: capacity, minimum, initial (MW), rampup, rampdown (MW per hour), minup,
 mindown, elapsed (hours), rise, fall (lists of MW), and for each of variable (F, per MWh), fixed (A, per on-line hour),
 startcost (B, per start) and stopcost (C, per stop) either a key in dollars, as variable_dollars, with up to three
-decimals, or one in mills, as variable_mills. The prices' file begins with the line hour,price_dollars or
-hour,price_mills, with ,order after it if any hour has an order, and has a line for each hour. A price is from -10,000
-to 10,000 dollars. The file is of form 2. It is read again before it is written: a case that would be refused is not
-written.
+decimals, or one in mills, as variable_mills. A unit that opens inside a start-up or a shut-down has start_up_stage or
+shut_down_stage too, the stage that initial is the output of. The prices' file begins with the line hour,price_dollars
+or hour,price_mills, with ,order after it if any hour has an order, and has a line for each hour. A price is from
+-10,000 to 10,000 dollars. The file is of form 3. It is read again before it is written: a case that would be refused is
+not written.
 """
 
 SHOW = """\
-The form of the file is named: 2, or old. With --toml or --prices the files are written that make takes, and nothing is
-printed: making them again gives the same case, in form 2. A file that would be refused is not shown: the fault says
+The form of the file is named: 3, 2, or old. With --toml or --prices the files are written that make takes, and nothing
+is printed: making them again gives the same case, in form 3. A file that would be refused is not shown: the fault says
 why.
 """
 
 BEST = """\
-With --calendar the orders come from the windows of a year in place of the case's own. The file begins with the line
-order,first,hours and has a line for each window: on or off, its first hour, counted from 0 at the year's first, and how
-many hours it holds; those of an order are sorted by first hour. The day is named by --first, and has then as many hours
-as the case unless --hours says another number; or by --date and --zone, and has then the 23, 24 or 25 hours that the
-clocks give it.
+A stop after the day is said, with its hour. With --next the unit's file for the next day is written: the unit with the
+opening that the best list leaves. With --calendar the orders come from the windows of a year in place of the case's
+own. The file begins with the line order,first,hours and has a line for each window: on or off, its first hour, counted
+from 0 at the year's first, and how many hours it holds; those of an order are sorted by first hour. The day is named by
+--first, and has then as many hours as the case unless --hours says another number; or by --date and --zone, and has
+then the 23, 24 or 25 hours that the clocks give it.
 """
 
 CHECK = """\
@@ -111,13 +114,15 @@ def show(arguments):
 
 
 def best(arguments):
-    """The table of the best day; its plot goes to a file of its own."""
+    """The table of the best day; its plot and the unit of the next day go to files of their own."""
     data = contents(arguments.file)
     day = best_day(arguments.file, data, calendar_of(arguments))
     if arguments.plot is not None:
         write(arguments.plot, svg(day, os.path.basename(named(arguments.file))).encode())
-    if arguments.form == "csv" and day.calendar is not None:
-        say("\n".join(day.calendar.replaced()))
+    if arguments.next is not None:
+        write(arguments.next, unit_text(left(day.reading.case, day.outputs)).encode())
+    if arguments.form == "csv":
+        say("\n".join(day.notes()))
     return _formed(arguments, day, day.reading, best_text, best_json, best_csv)
 
 
@@ -178,6 +183,7 @@ def parsed(words):
     command.add_argument("--date", metavar="YYYY-MM-DD", type=iso_date, help="the day by its date")
     command.add_argument("--zone", metavar="NAME", help="the time zone of the date, as Europe/Madrid")
     command.add_argument("--plot", metavar="FILE.svg", help="draw outputs, prices and earnings too")
+    command.add_argument("--next", metavar="NEXT.toml", help="write the unit's file for the next day too")
     _forms(command)
     command = _command(commands, check, "check a list of outputs", CHECK)
     command.add_argument("file", metavar="DAY.case")

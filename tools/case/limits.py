@@ -8,7 +8,7 @@ from typing import NamedTuple
 
 from module import giqapsun
 from money import dollars_of_mills
-from words import COSTS, ORDERS
+from words import COSTS, ORDERS, STAGES, counted
 
 OUTPUT, TIME, ELAPSED = 400, 8, 10_000
 VARIABLE, CHARGE = 1_000_000, 100_000_000
@@ -86,6 +86,35 @@ def _trajectories(case):
 
 def _opening(case):
     yield from outside("elapsed", case.elapsed, 1, ELAPSED)
+    if case.upstage and case.downstage:
+        yield Wrong("downstage", f"{case.downstage:,}, 0 allowed with a start-up stage of {case.upstage:,}")
+    elif case.upstage:
+        yield from _inside(case, "upstage", (1, len(case.rise) - 1), (case.upstage, case.upstage))
+    elif case.downstage:
+        yield from _inside(case, "downstage", (2, len(case.fall)), (len(case.rise) + case.downstage - 1, ELAPSED))
+    else:
+        yield from _outside_sequences(case)
+
+
+def _inside(case, name, stages, hours):
+    """The opening inside a sequence: the stage, p(0) and h; the stages and the hours that are allowed."""
+    stage, (_, sequence, listed) = getattr(case, name), STAGES[name]
+    outputs = getattr(case, listed)
+    least, most = stages
+    if not least <= stage <= most:
+        allowed = f"0 or from {least} to {most}" if least <= most else "0"
+        yield Wrong(name, f"{stage:,}, {allowed} allowed with {counted(len(outputs), 'output')} of {listed}")
+        return
+    place = f"allowed in stage {stage} of a {sequence}"
+    if case.initial != outputs[stage - 1]:
+        yield Wrong("initial", f"{case.initial:,}, {outputs[stage - 1]} {place}")
+    if 1 <= case.elapsed <= ELAPSED and not hours[0] <= case.elapsed <= hours[1]:
+        more = "" if hours[0] == hours[1] else " or more"
+        yield Wrong("elapsed", f"{case.elapsed:,}, {hours[0]}{more} {place}")
+
+
+def _outside_sequences(case):
+    """The opening in no sequence: p(0), and h on-line."""
     if case.initial != 0 and not case.minimum <= case.initial <= case.capacity:
         yield Wrong("initial", f"{case.initial:,}, 0 or from {case.minimum} to {case.capacity} allowed")
     elif case.initial > 0 and 1 <= case.elapsed < len(case.rise):

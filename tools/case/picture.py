@@ -8,6 +8,7 @@ screen gets colours of its own and paper those of the light.
 from html import escape
 from itertools import groupby
 
+from ends import stage_of
 from money import dollars_of_mills
 from words import ORDERS, counted
 
@@ -205,6 +206,14 @@ class Outputs(Panel):
         yield from self.shades(self.case.orders)
         yield from self.frame("output p(k) (MW)", str)
         yield from self.limits([(self.case.capacity, "capacity"), (self.case.minimum, "minimum")])
+
+    def ends(self, below, closes=None):
+        """So far below the panel: the stage that the day opens in on the left, and how it closes on the right."""
+        stage, y = stage_of(self.case, self.case), self.bottom + below
+        if stage:
+            yield text(LEFT, y, f"opens in {stage}", kind="note")
+        if closes:
+            yield text(RIGHT, y, closes, anchor="end", kind="note")
 
     def points(self, outputs):
         """The place of p(0) and of each output."""

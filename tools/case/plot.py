@@ -1,6 +1,8 @@
 """The best day as an SVG picture: outputs, prices and earnings one above the other, hours along all three. Losses are
-hatched and stand below 0. The windows of a calendar are named above their hours, and their ends have lines."""
+hatched and stand below 0. The windows of a calendar are named above their hours, and their ends have lines. A sequence
+that the day opens or closes in is named below its outputs."""
 
+from ends import closes
 from money import decimal, dollars_of_half_mills, dollars_of_mills, megawatt_hours
 from picture import (
     LEFT, Outputs, Panel, Prices, dot, hovers, legend, line, ordered, picture, polyline, rect, runs, scale, short,
@@ -30,11 +32,12 @@ def svg(day, name):
 
 def _outputs(day):
     """The output over the day: straight within each hour, a dot at the end of each, and the area below; the orders or
-    the windows named above."""
+    the windows named above, the sequences at its ends below."""
     case, outputs = day.reading.case, day.outputs
     panel = Outputs(case, outputs, OUTPUTS)
     yield from panel.ground()
     yield from panel.letters(_named(day.calendar) if day.calendar else runs(case.orders))
+    yield from panel.ends(32, closes(case, outputs))
     points = panel.points(outputs)
     area = " ".join([panel.point(0, 0), *points, panel.point(panel.hours, 0)])
     yield f'<polygon class="area" points="{area}"/>'

@@ -32,11 +32,12 @@ def svg_of_two(pair, name):
 
 
 def _key(house):
-    """How a list is drawn, its file, and what it earns or which rule it breaks."""
+    """How a list is drawn, its file, and what it earns, with its stop after the day, or which rule it breaks."""
     kind, mark, y = DRAWN[house.place]
     verdict = house.checked.verdict
     if house.checked.passes:
-        said = f"earns ${dollars_of_half_mills(house.profit)}"
+        stop = house.checked.stop_after
+        said = f"earns ${dollars_of_half_mills(house.profit)}{f', stop at hour {stop}' if stop else ''}"
     else:
         said = f"breaks rule {verdict.rule} at hour {verdict.hour}"
     yield polyline([f"{LEFT},{y}", f"{LEFT + 44},{y}"], kind)
@@ -50,6 +51,7 @@ def _outputs(pair):
     panel = Outputs(case, [*pair.first.outputs, *pair.second.outputs], OUTPUTS)
     yield from panel.ground()
     yield from panel.letters(runs(case.orders))
+    yield from panel.ends(46)
     for house in (pair.first, pair.second):
         kind, mark, _ = DRAWN[house.place]
         points = panel.points(house.outputs)

@@ -3,16 +3,20 @@
 Whether a rule is broken is the library's to say. These words explain its verdict.
 """
 
+from ends import stop_after
 from words import counted, listed
 
 
 class Marks:
-    """p, v, y and z of a list in a case, and the sums of the constraints."""
+    """p, v, y and z of a list in a case, and the sums of the constraints; the hours of the start that the day opens in
+    and of the stop after the day, None where there are none."""
 
     def __init__(self, case, outputs):
         self.case = case
         self.outputs = [case.initial, *outputs]
         self.ud, self.dd = len(case.rise), len(case.fall)
+        self.opening_start = 1 - case.upstage if case.upstage else None
+        self.stop_after = stop_after(case, outputs)
 
     def p(self, k):
         """The output at the end of hour k, in MW."""
@@ -23,12 +27,12 @@ class Marks:
         return int(self.p(k) > 0)
 
     def y(self, k):
-        """1 for a start; none below hour 1 or above the last."""
-        return int(1 <= k < len(self.outputs) and self.v(k) > self.v(k - 1))
+        """1 for a start; below hour 1 and above the last, that alone which the day opens in."""
+        return int(k == self.opening_start or 1 <= k < len(self.outputs) and self.v(k) > self.v(k - 1))
 
     def z(self, k):
-        """1 for a stop; none below hour 1 or above the last."""
-        return int(1 <= k < len(self.outputs) and self.v(k) < self.v(k - 1))
+        """1 for a stop; below hour 1 and above the last, that alone of the shut-down that the day closes in."""
+        return int(k == self.stop_after or 1 <= k < len(self.outputs) and self.v(k) < self.v(k - 1))
 
     def starts(self, k):
         """The hours whose start-up holds hour k."""
@@ -50,6 +54,12 @@ class Marks:
         """MW that the shut-down trajectory prescribes."""
         return sum(self.case.fall[self.dd - (c - k)] for c in self.stops(k))
 
+    def tests(self, rule, k):
+        """Whether a rule is tested at an hour."""
+        if k == 0:
+            return rule in (2, 4)
+        return 1 <= k < len(self.outputs) or (rule, k) == (21, self.stop_after)
+
     def hours_since(self, mark, k):
         """Hours from the latest mark before hour k; with none, those that the unit has been in its state."""
         latest = next((hour for hour in range(k - 1, 0, -1) if mark(hour)), None)
@@ -69,7 +79,7 @@ def _sums(marks, rule, k):
 def breach(case, outputs, hour, rule):
     """What breaks the rule at the hour, in words with numbers; a breach that these numbers do not show is said so."""
     marks = Marks(case, outputs)
-    if rule not in _RULES or not 0 <= hour <= len(outputs) or kept(marks, rule, hour):
+    if rule not in _RULES or not marks.tests(rule, hour) or kept(marks, rule, hour):
         return f"hour {hour}: rule {rule} is named, and this tool finds no numbers that break it"
     return f"hour {hour}: {_RULES[rule][1](marks, rule, hour) or _inequality(marks, rule, hour)}"
 
@@ -111,15 +121,23 @@ def _upper(marks, rule, k):
 
 def _start_up_words(marks, rule, k):
     p, starts = marks.p(k), marks.starts(k)
-    if len(starts) == 1 and p > 0:
-        stage = k - starts[0] + 1
-        limit = "asks for at least" if rule == 1 else "allows"
-        return f"{p} MW; stage {stage} of the start-up begun at hour {starts[0]} {limit} {marks.case.rise[stage - 1]}"
+    if len(starts) == 1:
+        return _stage_of_a_start_up(marks, rule, k, starts[0])
     if starts:
         return None
     if rule == 3:
         return f"{p} MW; the capacity is {marks.case.capacity}"
     return f"{p} MW outside a start-up and a shut-down; the minimum is {marks.case.minimum}"
+
+
+def _stage_of_a_start_up(marks, rule, k, start):
+    """For (1), (3) and (8), in one start-up."""
+    p, stage = marks.p(k), k - start + 1
+    begun = "that the day opens in" if start == marks.opening_start else f"begun at hour {start}"
+    output, place = marks.case.rise[stage - 1], f"stage {stage} of the start-up {begun}"
+    if p == 0:
+        return f"off-line; {place} needs {output} MW here"
+    return f"{p} MW; {place} {'asks for at least' if rule == 1 else 'allows'} {output}"
 
 
 def _shut_down_words(marks, rule, k):
@@ -200,7 +218,8 @@ def _times(marks, rule, k):
 def _time_words(marks, rule, k):
     hours = counted(marks.hours_since(marks.y if rule == 21 else marks.z, k), "hour")
     if rule == 21:
-        return f"stop after {hours} on-line; the minimum up time is {marks.case.minup}"
+        past = "the shut-down that the day closes in ends here: " if k == marks.stop_after else ""
+        return f"{past}stop after {hours} on-line; the minimum up time is {marks.case.minup}"
     return f"start after {hours} off-line; the minimum down time is {marks.case.mindown}"
 
 
@@ -223,7 +242,7 @@ _RULES = {
     1: (_lower, _start_up_words), 2: (_lower, _shut_down_words),
     3: (_upper, _start_up_words), 4: (_upper, _shut_down_words),
     5: (_ramp_up, _ramp_words), 6: (_ramp_down, _ramp_words),
-    7: (_commitment, _no_words), 8: (_commitment, _no_words), 9: (_commitment, _shut_down_words),
+    7: (_commitment, _no_words), 8: (_commitment, _start_up_words), 9: (_commitment, _shut_down_words),
     10: (_meeting, _meeting_words), 11: (_meeting, _meeting_words), 12: (_meeting, _meeting_words),
     21: (_times, _time_words), 22: (_times, _time_words), 23: (_order, _order_words),
 }

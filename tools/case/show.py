@@ -2,21 +2,30 @@
 
 from dataclasses import asdict
 
-from layout import FORM, OLD
+from ends import stage_of
+from layout import FORM, OLD, SECOND
 from money import dollars_of_mills
 from reading import BY
 from tables import csv_of, json_of
-from words import COSTS, NUMBERS, ORDERS, TRAJECTORIES, UNIT
+from words import COSTS, NUMBERS, ORDERS, STAGES, TRAJECTORIES, UNIT
 
 # what the form of a file says
-_FORMS = {FORM: ", with signed 32-bit prices", OLD: f", with 16-bit prices; form {FORM} is the one that is written"}
+_FORMS = {
+    FORM: ", with stages and signed 32-bit prices",
+    SECOND: f", with signed 32-bit prices; form {FORM} is the one that is written",
+    OLD: f", with 16-bit prices; form {FORM} is the one that is written",
+}
 
 
 def shown_text(reading):
     """The text of a case."""
     case = reading.case
     lines = [f"{'form':9} {reading.form:>11} {'':13} of the file{_FORMS.get(reading.form, '')}"]
-    lines += [_cost(case, name) if name in COSTS else _number(case, name) for name in UNIT]
+    for name in UNIT:
+        if name in STAGES:
+            lines += _stage(case, name)
+        else:
+            lines.append(_cost(case, name) if name in COSTS else _number(case, name))
     lines += [_trajectory(case, name) for name in TRAJECTORIES]
     lines.append(f"{'hours':9} {len(case.prices):>11} {'':13} T, the hours of the day")
     lines += ["", "hour  price (mills/MWh)  price ($/MWh)  order"]
@@ -44,6 +53,13 @@ def _number(case, name):
     if name == "elapsed":
         words = f"h, hours {'on-line' if case.initial else 'off-line'} before hour 1"
     return f"{name:9} {getattr(case, name):>11} {unit:13} {words}".rstrip()
+
+
+def _stage(case, name):
+    """A line for the stage that the day opens in, none where it is 0."""
+    stage = getattr(case, name)
+    if stage:
+        yield f"{name:9} {stage:>11} {'':13} the day opens in {stage_of(case, case)}"
 
 
 def _cost(case, name):

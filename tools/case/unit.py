@@ -1,26 +1,31 @@
-"""The unit, from a TOML file: one key for each field, all of them required.
+"""The unit, from a TOML file: one key for each field, all of them required but the two stages.
 
     capacity, minimum, initial                       MW
     rampup, rampdown                                 MW per hour
     minup, mindown, elapsed                          hours
     rise, fall                                       lists of MW
+    start_up_stage, shut_down_stage                  stages; 0 where they are left out
     variable_dollars or variable_mills               per MWh
     fixed_dollars or fixed_mills                     per on-line hour
     startcost_dollars or startcost_mills             per start
     stopcost_dollars or stopcost_mills               per stop
 
-The keys are the names of the record. Each cost says its unit in its key. Dollars have up to three decimals
-and are taken digit by digit.
+The keys are the names of the record, but for the stages, which it calls upstage and downstage. Each cost says its unit
+in its key. Dollars have up to three decimals and are taken digit by digit.
 """
 
 import re
 import tomllib
 
+from ends import stage_of
 from faults import Fault, quoted
 from files import text
 from module import giqapsun
 from money import dollars_of_mills, machine, mills_of_dollars
-from words import COSTS, NUMBERS, TRAJECTORIES
+from words import COSTS, NUMBERS, STAGES, TRAJECTORIES
+
+# the keys of the stages by the record's names
+STAGE_KEYS = {name: key for name, (key, _, _) in STAGES.items()}
 
 # other words for a key, and the record's
 SYNONYMS = {
@@ -28,7 +33,8 @@ SYNONYMS = {
     "minimum_up": "minup", "minimum_down": "mindown", "min_up": "minup", "min_down": "mindown",
     "start_up": "rise", "shut_down": "fall", "PU": "rise", "PD": "fall",
     "F": "variable", "A": "fixed", "B": "startcost", "C": "stopcost",
-    "startup": "startcost", "shutdown": "stopcost",
+    "startup": "startcost", "shutdown": "stopcost", "startup_stage": "start_up_stage",
+    "shutdown_stage": "shut_down_stage", **STAGE_KEYS,
 }
 
 
@@ -49,7 +55,9 @@ class Unit:
             raise Fault(file, _line_in(str(error)), None, f"not TOML: {error}") from None
 
     def fault(self, key, what):
-        """A fault at a key, or at the cost of that name."""
+        """A fault at a key, or at the cost or the stage of that name."""
+        if key not in self.values:
+            key = STAGE_KEYS.get(key, key)
         name = re.escape(key) if key in self.values else rf"{re.escape(key)}(?:_dollars|_mills)"
         pattern = re.compile(rf"\s*\[*\s*[\"']?{name}[\"']?\s*[\].=]")
         lines = (n for n, line in enumerate(self.lines, 1) if pattern.match(line))
@@ -92,21 +100,26 @@ class Unit:
 
     def case(self):
         """A case with the unit's fields, and no hours."""
-        known = {*NUMBERS, *TRAJECTORIES, *(f"{cost}_{money}" for cost in COSTS for money in ("dollars", "mills"))}
+        costs = {f"{cost}_{money}" for cost in COSTS for money in ("dollars", "mills")}
         for key in self.values:
-            if key not in known:
+            if key not in {*NUMBERS, *STAGE_KEYS.values(), *TRAJECTORIES, *costs}:
                 raise self.fault(key, _no_key(key))
         for key in (*NUMBERS, *TRAJECTORIES):
             if key not in self.values:
                 raise Fault(self.file, None, key, "the key is missing")
         fields = {key: self.number(key, self.values[key]) for key in NUMBERS}
         fields |= {cost: self.cost(cost) for cost in COSTS}
+        fields |= {name: self.number(key, self.values.get(key, 0)) for name, key in STAGE_KEYS.items()}
         return giqapsun.Case(**fields, **{key: self.list(key) for key in TRAJECTORIES})
 
 
 def unit_text(case):
     """The file that gives the unit of a case back."""
     lines = [_line(name, getattr(case, name), *words) for name, words in NUMBERS.items()]
+    lines += [
+        _line(key, getattr(case, name), "", f"the day opens in {stage_of(case, case)}")
+        for name, key in STAGE_KEYS.items() if getattr(case, name)
+    ]
     lines += [
         _line(f"{name}_dollars", machine(dollars_of_mills(getattr(case, name))), *words)
         for name, words in COSTS.items()

@@ -27,10 +27,16 @@ TRAJECTORIES = {
     "fall": ("shut-down trajectory PD", "DD"),
 }
 
+# the stage that the day opens in, 0 for none: its key in the unit's file, the sequence, the list of its outputs
+STAGES = {
+    "upstage": ("start_up_stage", "start-up", "rise"),
+    "downstage": ("shut_down_stage", "shut-down", "fall"),
+}
+
 # the fields of the unit in the order of the record
 UNIT = (
     "capacity", "minimum", "rampup", "rampdown", "minup", "mindown", "variable", "fixed", "startcost", "stopcost",
-    "initial", "elapsed",
+    "initial", "elapsed", *STAGES,
 )
 
 # what an order byte says

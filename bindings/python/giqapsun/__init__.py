@@ -1,10 +1,11 @@
 """The day of one thermal power unit: case files are read and written, a list of hourly outputs is checked
 against the rules of the day, the list that earns most is found, by the case's own hour orders or by those of the
-year's calendar, and the better of two lists is told.
+year's calendar, the better of two lists is told, and what a list leaves for the next day.
 
 Outputs are whole megawatts, prices and costs mills (thousandths of a dollar), profits half-mills (2,000 to
 the dollar, exact). A price may be below 0: it is from PRICE_LEAST to PRICE_MOST. Hours are counted from 1;
-hour 0 is the one before the day.
+hour 0 is the one before the day. A day may open inside a start-up or a shut-down, and close inside one; C belongs
+to the day that holds the stop.
 
     import giqapsun
 
@@ -18,6 +19,11 @@ A calendar is two lists of windows of the year, on-line and off-line, each with 
 hour, counted from 0 at the year's first hour, and its length in hours.
 
     by_calendar = giqapsun.best_by_calendar(case, on=[], off=[2406, 6], first=2400, hours=24)
+
+Days follow one another: the next one opens as the list leaves the unit.
+
+    opening = giqapsun.opening_after(case, plan.outputs)
+    tomorrow = dataclasses.replace(case, **dataclasses.asdict(opening), prices=prices)
 
 The module loads libgiqapsun.so at its first call: the one that GIQAPSUN_LIBRARY names, or the one inside
 this package, or the one that bindings/build.sh makes in target/bindings of the repository.
@@ -40,11 +46,11 @@ from ._boundary import Case as _Case
 from ._boundary import LibraryError, calls, library_file
 from ._texts import REFUSALS, RULES
 
-__version__ = "2.1.1"
+__version__ = "3.0.0"
 
 __all__ = [
-    "Case", "Passes", "Breaks", "Plan", "First", "Second", "Neither", "Refusal", "LibraryError",
-    "read", "write", "check", "best", "best_by_calendar", "compare", "better", "library_file",
+    "Case", "Opening", "Passes", "Breaks", "Plan", "First", "Second", "Neither", "Refusal", "LibraryError",
+    "read", "write", "check", "best", "best_by_calendar", "compare", "better", "opening_after", "library_file",
     "FREE", "ON", "OFF", "STAGES", "HOURS", "PRICE_LEAST", "PRICE_MOST", "YEAR_HOURS", "DAY_HOURS",
     "REFUSALS", "RULES",
 ]
@@ -54,6 +60,9 @@ FREE, ON, OFF = 0, 1, 2
 
 # how many hours a day of the calendar can have
 DAY_HOURS = tuple(range(DAY_LEAST, DAY_MOST + 1))
+
+# hours in state are counted up to this number, which 7 allows
+_ELAPSED_MOST = 10_000
 
 
 class Refusal(Exception):
@@ -84,10 +93,22 @@ class Case:
     stopcost: int = 0  # C, mills per stop
     initial: int = 0  # p(0), MW
     elapsed: int = 0  # h, hours on-line or off-line before hour 1
+    upstage: int = field(default=0, kw_only=True)  # start-up stage: 0, or i below UD where the day opens on PU(i)
+    downstage: int = field(default=0, kw_only=True)  # shut-down stage: 0, or i from 2 where the day opens on PD(i)
     rise: list[int] = field(default_factory=list)  # PU, MW
     fall: list[int] = field(default_factory=list)  # PD, MW
     prices: list[int] = field(default_factory=list)  # mills per MWh, below 0 too, that of hour k at k - 1
     orders: list[int] = field(default_factory=list)  # FREE, ON or OFF, that of hour k at k - 1
+
+
+@dataclass(frozen=True, slots=True)
+class Opening:
+    """How a day opens: the state of the unit before hour 1, by the names of Case."""
+
+    initial: int  # p(0), MW
+    elapsed: int  # h, hours on-line or off-line before hour 1
+    upstage: int = 0  # start-up stage
+    downstage: int = 0  # shut-down stage
 
 
 @dataclass(frozen=True, slots=True)
@@ -99,7 +120,8 @@ class Passes:
 
 @dataclass(frozen=True, slots=True)
 class Breaks:
-    """The earliest hour at which a list breaks a rule, and the lowest rule broken there."""
+    """The earliest hour at which a list breaks a rule, and the lowest rule broken there. An hour above T is that of a
+    stop after the day, too early for the minimum up time."""
 
     hour: int
     rule: int
@@ -143,7 +165,7 @@ _Other = TypeVar("_Other", bound=Sequence[SupportsIndex])
 
 
 def read(file: bytes | bytearray | memoryview) -> Case:
-    """The case in the bytes of a file, of form 2 or of the old form; refusals 1 to 8, 12 and 13."""
+    """The case in the bytes of a file, of form 3, of form 2 or of the old form; refusals 1 to 8, 12 and 13."""
     file = bytes(memoryview(file))
     reading = calls().read(_lent(ctypes.c_uint8, file), len(file))
     _test(reading.number)
@@ -155,7 +177,7 @@ def read(file: bytes | bytearray | memoryview) -> Case:
 
 
 def write(case: Case) -> bytes:
-    """The bytes of a case's file, of form 2; refusals 2 to 8 and 13."""
+    """The bytes of a case's file, of form 3; refusals 2 to 8 and 13."""
     lent = _lent(ctypes.c_uint8, bytes(FILE_MOST))
     written = calls().write(_record(case), lent, FILE_MOST)
     _test(written.number)
@@ -218,6 +240,24 @@ def better(case: Case, first: _One, second: _Other) -> _One | _Other:
         case Second():
             return second
     return first[:0]
+
+
+def opening_after(case: Case, outputs: Iterable[SupportsIndex]) -> Opening:
+    """The opening that a list which passes leaves for the next day; no call of the library.
+
+    Its last output; how many hours the unit has then been on-line or off-line, counted up to 10,000; and the stage of
+    the start-up or of the shut-down that the day closes in. An accepted case has its own opening after no hours.
+    """
+    initial, elapsed = (_number(name, getattr(case, name), _KINDS[name]) for name in ("initial", "elapsed"))
+    for output in _entries("outputs", outputs, ctypes.c_uint16):
+        changes = (output > 0) != (initial > 0)
+        initial, elapsed = output, 1 if changes else min(elapsed + 1, _ELAPSED_MOST)
+    if initial == 0:
+        return Opening(initial, elapsed)
+    if elapsed <= len(case.rise):
+        return Opening(initial, elapsed, upstage=elapsed if elapsed < len(case.rise) else 0)
+    later = _entries("fall", case.fall, ctypes.c_uint16)[1:]
+    return Opening(initial, elapsed, downstage=later.index(initial) + 2 if initial in later else 0)
 
 
 _LISTS = ("rise", "fall", "prices", "orders")

@@ -8,7 +8,7 @@ from pathlib import Path
 STAGES = 8
 HOURS = 48
 WORK = 8192
-FILE_MOST = 20 + 32 + 2 * STAGES * 2 + 5 * HOURS + 2
+FILE_MOST = 20 + 34 + 2 * STAGES * 2 + 5 * HOURS + 2
 PRICE_LEAST = -10_000_000
 PRICE_MOST = 10_000_000
 YEAR_HOURS = 8784
@@ -16,7 +16,7 @@ DAY_LEAST = 23
 DAY_MOST = 25
 
 # the number of the record's layout, which ends the name of each call
-LAYOUT = 2
+LAYOUT = 3
 
 
 class LibraryError(OSError):
@@ -41,6 +41,8 @@ class Case(ctypes.Structure):
         ("stopcost", ctypes.c_int32),
         ("initial", ctypes.c_uint16),
         ("elapsed", ctypes.c_uint16),
+        ("upstage", ctypes.c_uint8),
+        ("downstage", ctypes.c_uint8),
         ("rise", ctypes.c_uint16 * STAGES),
         ("fall", ctypes.c_uint16 * STAGES),
         ("prices", ctypes.c_int32 * HOURS),

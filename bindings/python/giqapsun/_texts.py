@@ -7,13 +7,16 @@ REFUSALS: dict[int, str] = {
     15: "an hour of the day in both lists of windows",
     1: "file under 16 bytes, or pairs not as laid down",
     2: "a section length, or a count in a record, not as laid down; by calendar, T not the day's number of hours",
-    12: "form number not 2",
+    12: "form number neither 2 nor 3",
     3: "minimum output 0 or above capacity, or capacity above 400",
     4: "RU or RD outside 1 to 400, or a minimum time outside 1 to 8",
     5: "F not from 0 to 1,000,000, or A, B or C not from 0 to 100,000,000",
     6: "PU not strictly rising from 1 or more to the minimum output, "
        "or PD not strictly falling from the minimum output to 1 or more",
-    7: "h outside 1 to 10,000; p(0) neither 0 nor from minimum to capacity; p(0) above 0 with h below UD",
+    7: "h outside 1 to 10,000; both stages set; "
+       "a start-up stage not from 1 to UD - 1, or set with p(0) not PU(stage) or h not the stage; "
+       "a shut-down stage not from 2 to DD, or set with p(0) not PD(stage) or h below UD + stage - 1; "
+       "with no stage set, p(0) neither 0 nor from minimum to capacity, or p(0) above 0 with h below UD",
     8: "an order byte above 2",
     13: "a price outside -10,000,000 to 10,000,000",
     9: "checked list not of T outputs",

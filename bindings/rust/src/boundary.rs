@@ -3,7 +3,7 @@
 
 /// Number of the layout of these structs. The library's functions carry it in their names, so that a library of
 /// another layout does not link.
-pub const LAYOUT: u32 = 2;
+pub const LAYOUT: u32 = 3;
 
 /// Entries that a record has room for in a trajectory.
 pub const STAGES: usize = 8;
@@ -15,7 +15,7 @@ pub const HOURS: usize = 48;
 pub const WORK: usize = 8192;
 
 /// Bytes of the longest file: pairs, unit, two trajectories, hours, form number.
-pub const FILE_MOST: usize = 20 + 32 + 2 * STAGES * 2 + 5 * HOURS + 2;
+pub const FILE_MOST: usize = 20 + 34 + 2 * STAGES * 2 + 5 * HOURS + 2;
 
 /// The lowest price, in mills per MWh.
 pub const PRICE_LEAST: i32 = -10_000_000;
@@ -70,6 +70,10 @@ pub struct Case {
     pub initial: u16,
     /// h, the hours on-line (p(0) above 0) or off-line (p(0) 0) before hour 1.
     pub elapsed: u16,
+    /// Start-up stage: 0, or i below UD where the day opens on PU(i); h is i then.
+    pub upstage: u8,
+    /// Shut-down stage: 0, or i from 2 to DD where the day opens on PD(i).
+    pub downstage: u8,
     /// Start-up trajectory PU in MW.
     pub rise: [u16; STAGES],
     /// Shut-down trajectory PD in MW.
@@ -102,6 +106,8 @@ impl Default for Case {
             stopcost: 0,
             initial: 0,
             elapsed: 0,
+            upstage: 0,
+            downstage: 0,
             rise: [0; STAGES],
             fall: [0; STAGES],
             prices: [0; HOURS],
@@ -139,7 +145,8 @@ pub struct Written {
 pub struct Verdict {
     /// 0, or the number of the refusal.
     pub number: u32,
-    /// The earliest hour at which a rule is broken, from 0; 0 also where none is.
+    /// The earliest hour at which a rule is broken, from 0; 0 also where none is. One above T is that of a
+    /// stop after the day.
     pub hour: u32,
     /// 0, or the lowest rule broken at that hour.
     pub rule: u32,
@@ -172,31 +179,31 @@ pub struct Choice {
 // Every pointer is valid for its length, aligned and not null; lent slices do not overlap, but the two lists
 // of giqapsun_better, and the two of windows of giqapsun_best_by_calendar, may overlap each other.
 extern "C" {
-    /// Reads the `n` bytes of a file, of form 2 or of the old form; changes no lent memory.
-    #[link_name = "giqapsun_read_2"]
+    /// Reads the `n` bytes of a file, of form 3, of form 2 or of the old form; changes no lent memory.
+    #[link_name = "giqapsun_read_3"]
     pub fn giqapsun_read(file: *const u8, n: usize) -> Reading;
 
-    /// Writes a file of form 2 into `n` lent bytes; changes the first `length` of them, on a refusal none.
-    #[link_name = "giqapsun_write_2"]
+    /// Writes a file of form 3 into `n` lent bytes; changes the first `length` of them, on a refusal none.
+    #[link_name = "giqapsun_write_3"]
     pub fn giqapsun_write(c: Case, bytes: *mut u8, n: usize) -> Written;
 
     /// Checks a list of `n` outputs; changes no lent memory.
-    #[link_name = "giqapsun_check_2"]
+    #[link_name = "giqapsun_check_3"]
     pub fn giqapsun_check(c: Case, list: *const u16, n: usize) -> Verdict;
 
     /// Finds the best list with `n` numbers to work in, at least [`WORK`], and `m` outputs, at least T.
     /// Fills the first T outputs on number 0; zeroes the first [`WORK`] numbers on 0 and 11.
-    #[link_name = "giqapsun_best_2"]
+    #[link_name = "giqapsun_best_3"]
     pub fn giqapsun_best(c: Case, work: *mut i64, n: usize, outputs: *mut u16, m: usize) -> Plan;
 
     /// Tells the better of a list of `n` outputs and one of `m`; changes no lent memory.
-    #[link_name = "giqapsun_better_2"]
+    #[link_name = "giqapsun_better_3"]
     pub fn giqapsun_better(c: Case, first: *const u16, n: usize, second: *const u16, m: usize) -> Choice;
 
     /// Finds the best list with the hour orders of a calendar: `a` numbers of on-line windows and `b` of
     /// off-line ones, two for each, and the day's first hour and number of hours. `work` and `outputs` are as
     /// for [`giqapsun_best`]; the windows are only read.
-    #[link_name = "giqapsun_best_by_calendar_2"]
+    #[link_name = "giqapsun_best_by_calendar_3"]
     pub fn giqapsun_best_by_calendar(
         c: Case,
         on: *const u16,

@@ -1,10 +1,12 @@
 //! The day of one thermal power unit: case files are read and written, a list of hourly outputs is checked
 //! against the rules of the day, the list that earns most is found, by the case's own hour orders or by those
 //! of a calendar, and the better of two lists is told. The library behind it is proved; this crate lends it
-//! memory and turns its answers into Rust's.
+//! memory and turns its answers into Rust's. What a list leaves for the next day, [`Case::opening_after`] says.
 //!
 //! Outputs are whole megawatts, prices and costs mills (thousandths of a dollar), profits half-mills (2,000
-//! to the dollar, exact). A price may be below 0. Hours are counted from 1; hour 0 is the one before the day.
+//! to the dollar, exact). A price may be below 0. Hours are counted from 1; hour 0 is the one before the day. A
+//! day may open inside a start-up or a shut-down, and close inside one; C belongs to the day that holds the
+//! stop.
 //!
 //! ```
 //! use giqapsun::{best, better, check, read, write, Case, Verdict};
@@ -56,11 +58,13 @@
 #![deny(missing_docs)]
 
 pub mod boundary;
+mod opening;
 mod refusal;
 mod rule;
 
 pub use boundary::{Case, DAY_LEAST, DAY_MOST, FILE_MOST, FREE, HOURS, OFF, ON, PRICE_LEAST, PRICE_MOST};
 pub use boundary::{STAGES, WORK, YEAR_HOURS};
+pub use opening::Opening;
 pub use refusal::Refusal;
 pub use rule::{rule_text, RULES};
 
@@ -77,7 +81,8 @@ pub enum Verdict {
     },
     /// The list breaks a rule.
     Breaks {
-        /// The earliest hour at which a rule is broken; hour 0 is the one before the day.
+        /// The earliest hour at which a rule is broken; hour 0 is the one before the day. One above T is that
+        /// of a stop after the day, too early for the minimum up time.
         hour: u32,
         /// The lowest rule broken there; [`rule_text`] has its words.
         rule: u32,
@@ -110,7 +115,7 @@ pub enum Comparison {
     Neither,
 }
 
-/// Reads a case file, of form 2 or of the old form.
+/// Reads a case file, of form 3, of form 2 or of the old form.
 ///
 /// # Errors
 ///
@@ -121,7 +126,7 @@ pub fn read(file: &[u8]) -> Result<Case, Refusal> {
     accepted(reading.number, reading.c)
 }
 
-/// Writes the file of a case, in form 2.
+/// Writes the file of a case, in form 3.
 ///
 /// # Errors
 ///

@@ -19,7 +19,7 @@ pub enum Refusal {
     Costs,
     /// 6: trajectories.
     Trajectories,
-    /// 7: output and hours in state before hour 1.
+    /// 7: output, hours in state and stage before hour 1.
     Opening,
     /// 8: hour orders.
     Orders,
@@ -108,8 +108,10 @@ impl Refusal {
                  or PD not strictly falling from the minimum output to 1 or more"
             }
             Refusal::Opening => {
-                "h outside 1 to 10,000; p(0) neither 0 nor from minimum to capacity; \
-                 p(0) above 0 with h below UD"
+                "h outside 1 to 10,000; both stages set; a start-up stage not from 1 to UD - 1, or set with p(0) \
+                 not PU(stage) or h not the stage; a shut-down stage not from 2 to DD, or set with p(0) not \
+                 PD(stage) or h below UD + stage - 1; with no stage set, p(0) neither 0 nor from minimum to \
+                 capacity, or p(0) above 0 with h below UD"
             }
             Refusal::Orders => "an order byte above 2",
             Refusal::ListLength => "checked list not of T outputs",
@@ -118,7 +120,7 @@ impl Refusal {
                  or the written file's bytes"
             }
             Refusal::NoSchedule => "best list asked for, and no list keeps every rule",
-            Refusal::Form => "form number not 2",
+            Refusal::Form => "form number neither 2 nor 3",
             Refusal::Prices => "a price outside -10,000,000 to 10,000,000",
             Refusal::Calendar => {
                 "a list of windows not of whole pairs; a window empty, unsorted or overlapping its neighbour; \

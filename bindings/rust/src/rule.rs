@@ -1,7 +1,8 @@
 //! The rules that a verdict can name, in words.
 
 /// Each rule with its words, lowest number first: constraints 1 to 12, minimum times 21 and 22, hour orders 23.
-/// No verdict names 7, 8 or 12.
+/// No verdict names 7 or 12, and 8 is named only where a list breaks off the start-up that its day opens in. 21 alone
+/// may be broken above T.
 pub const RULES: [(u32, &str); 15] = [
     (1, "lower limit of the output, with the start-up trajectory"),
     (2, "lower limit of the output, with the shut-down trajectory"),

@@ -12,7 +12,12 @@ const SOURCE: &[u8] = include_bytes!("../../../cases/source.case");
 const CASE_7: &[u8] = include_bytes!("../../../cases/case7.case");
 const BELOW_ZERO: &[u8] = include_bytes!("../../../cases/below_zero.case");
 
-/// The same two in the old form.
+/// The same in form 2.
+const SECOND_SOURCE: &[u8] = include_bytes!("../../../cases/old/form2/source.case");
+const SECOND_CASE_7: &[u8] = include_bytes!("../../../cases/old/form2/case7.case");
+const SECOND_BELOW_ZERO: &[u8] = include_bytes!("../../../cases/old/form2/below_zero.case");
+
+/// Two of them in the old form.
 const OLD_SOURCE: &[u8] = include_bytes!("../../../cases/old/source.case");
 const OLD_CASE_7: &[u8] = include_bytes!("../../../cases/old/case7.case");
 
@@ -114,11 +119,18 @@ fn source_day() {
     assert_eq!(write(&case).unwrap(), SOURCE);
 }
 
-/// An old file is the same case, and comes back in form 2.
+/// A file of an older form is the same case, with stages 0, and comes back in form 3.
 #[test]
-fn old_files() {
-    for (old, file) in [(OLD_CASE_7, CASE_7), (OLD_SOURCE, SOURCE)] {
+fn older_forms() {
+    for (old, file) in [
+        (OLD_CASE_7, CASE_7),
+        (OLD_SOURCE, SOURCE),
+        (SECOND_CASE_7, CASE_7),
+        (SECOND_SOURCE, SOURCE),
+        (SECOND_BELOW_ZERO, BELOW_ZERO),
+    ] {
         let case = read(old).unwrap();
+        assert_eq!((case.upstage, case.downstage), (0, 0));
         assert_eq!(Ok(case), read(file));
         assert_eq!(write(&case).unwrap(), file);
     }

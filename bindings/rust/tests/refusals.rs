@@ -8,6 +8,7 @@ use giqapsun::{
 };
 
 const CASE_7: &[u8] = include_bytes!("../../../cases/case7.case");
+const SECOND_CASE_7: &[u8] = include_bytes!("../../../cases/old/form2/case7.case");
 const OLD_CASE_7: &[u8] = include_bytes!("../../../cases/old/case7.case");
 
 /// Case 7 with a change.
@@ -33,6 +34,11 @@ fn refused_cases() -> Vec<(u32, Case)> {
         (5, changed(|case| case.stopcost = -1)),
         (6, changed(|case| case.rise[0] = 2)),
         (7, changed(|case| case.initial = 1)),
+        (7, changed(|case| case.upstage = 1)),
+        (7, changed(|case| case.downstage = 2)),
+        // the order of the tests within the record
+        (6, changed(|case| (case.rise[0], case.upstage) = (2, 1))),
+        (7, changed(|case| (case.orders[2], case.downstage) = (3, 2))),
         (8, changed(|case| case.orders[2] = 3)),
         (13, changed(|case| case.prices[0] = PRICE_LEAST - 1)),
         (13, changed(|case| case.prices[2] = PRICE_MOST + 1)),
@@ -59,39 +65,63 @@ fn file_with(file: &[u8], offset: usize, bytes: &[u8]) -> Vec<u8> {
     file
 }
 
-/// Examples of each refusal of a file of form 2.
+/// Examples of each refusal of a file of form 3.
 fn refused_files() -> Vec<(u32, Vec<u8>)> {
     let with = |offset, bytes: &[u8]| file_with(CASE_7, offset, bytes);
     vec![
         (1, Vec::new()),
         (1, CASE_7[..15].to_vec()),
         (1, CASE_7[..19].to_vec()),
-        (1, CASE_7[..76].to_vec()),
+        (1, CASE_7[..78].to_vec()),
         (1, [CASE_7, &[0]].concat()),
         (1, with(0, &[16])),
         (1, with(0, &[18])),
-        (1, with(16, &[74])),
-        (2, with(14, &[14, 0, 74, 0, 3])),
+        (1, with(16, &[76])),
+        (2, with(14, &[14, 0, 76, 0, 3])),
         // a form section of three bytes and one of none, whatever they hold
         (2, [&with(18, &[3])[..], &[0]].concat()),
-        (2, with(18, &[0])[..75].to_vec()),
-        (12, with(75, &[1])),
-        (12, with(75, &[3])),
-        (12, with(75, &[2, 1])),
-        // an unknown form is measured by the lengths of form 2, and refused before the record is
-        (2, with(14, &[9, 0, 69, 0, 2, 0])[..71].to_vec()),
-        (12, file_with(&with(75, &[3]), 20, &[1])),
+        (2, with(18, &[0])[..77].to_vec()),
+        // the unit of form 2 has other lengths
+        (2, with(77, &[2])),
+        (12, with(77, &[1])),
+        (12, with(77, &[4])),
+        (12, with(77, &[3, 1])),
+        // an unknown form is measured by the lengths of form 3, and refused before the record is
+        (2, with(14, &[9, 0, 71, 0, 2, 0])[..73].to_vec()),
+        (12, file_with(&with(77, &[4]), 20, &[1])),
         (3, with(20, &[1])),
         (4, with(24, &[0])),
         (5, with(32, &1_000_001u32.to_le_bytes())),
         (5, with(36, &0x8000_0000u32.to_le_bytes())),
         (5, with(44, &u32::MAX.to_le_bytes())),
+        (6, with(54, &[2])),
+        (7, with(48, &[1])),
+        (7, with(52, &[1])),
+        (7, with(53, &[2])),
+        (7, with(52, &[1, 2])),
+        (8, with(66, &[3])),
+        (13, with(62, &(PRICE_LEAST - 1).to_le_bytes())),
+        (13, with(72, &(PRICE_MOST + 1).to_le_bytes())),
+        (8, file_with(&with(62, &(PRICE_MOST + 1).to_le_bytes()), 76, &[3])),
+    ]
+}
+
+/// Examples of each refusal of a file of form 2.
+fn refused_second_files() -> Vec<(u32, Vec<u8>)> {
+    let with = |offset, bytes: &[u8]| file_with(SECOND_CASE_7, offset, bytes);
+    vec![
+        (1, SECOND_CASE_7[..76].to_vec()),
+        (1, [SECOND_CASE_7, &[0]].concat()),
+        // the number of another form, of which the unit has other lengths
+        (2, with(75, &[3])),
+        (2, with(75, &[1])),
+        (3, with(20, &[1])),
+        (4, with(24, &[0])),
+        (5, with(36, &0x8000_0000u32.to_le_bytes())),
         (6, with(52, &[2])),
         (7, with(48, &[1])),
         (8, with(64, &[3])),
         (13, with(60, &(PRICE_LEAST - 1).to_le_bytes())),
-        (13, with(70, &(PRICE_MOST + 1).to_le_bytes())),
-        (8, file_with(&with(60, &(PRICE_MOST + 1).to_le_bytes()), 74, &[3])),
     ]
 }
 
@@ -117,7 +147,7 @@ fn refused_old_files() -> Vec<(u32, Vec<u8>)> {
 
 #[test]
 fn of_a_file() {
-    for (number, file) in refused_files().into_iter().chain(refused_old_files()) {
+    for (number, file) in [refused_files(), refused_second_files(), refused_old_files()].concat() {
         assert_eq!(read(&file), Err(Refusal::from_number(number).unwrap()), "{file:?}");
         // SAFETY: pointer and length of one slice.
         let reading = unsafe { giqapsun_read(file.as_ptr(), file.len()) };

@@ -150,12 +150,12 @@ fn stage_of(stage: u8) -> usize
 }
 
 // Whether p(0) is the output at a stage of a trajectory, counted from 1.
-fn opens_at(case: Case, outputs: [Output; STAGES], i: usize) -> bool
+fn opens_at(initial: Output, outputs: [Output; STAGES], i: usize) -> bool
     requires { ⌜ (1 ≤ i) × (i ≤ mostStages) ⌝ }
-    ensures { λ r. ⌜ r ≡ eqb (case .initial .0) (stage outputs i) ⌝ }
+    ensures { λ r. ⌜ r ≡ eqb (initial .0) (stage outputs i) ⌝ }
 {
     let output = outputs[i - 1];
-    case.initial.0 == output.0
+    initial.0 == output.0
 }
 
 // The day opens in no sequence, for counts that 2 does not refuse.
@@ -179,7 +179,7 @@ fn opens_up(case: Case) -> bool
     if !counted(stage, case.rises - 1) {
         return false;
     }
-    let output = opens_at(case, rise, stage);
+    let output = opens_at(case.initial, rise, stage);
     let hours = case.elapsed.0 == hours_of(stage).0;
     (case.downstage == 0) & (output & hours)
 }
@@ -194,7 +194,7 @@ fn opens_down(case: Case) -> bool
     if !((2 <= stage) & (stage <= case.falls)) {
         return false;
     }
-    let output = opens_at(case, fall, stage);
+    let output = opens_at(case.initial, fall, stage);
     let hours = hours_of(case.rises + stage - 1).0 <= case.elapsed.0;
     (case.upstage == 0) & (output & hours)
 }

@@ -105,6 +105,8 @@ fn read_unit(part: &[u8], rise: Trajectory, fall: Trajectory, day: Day) -> Case
     requires { ⌜ width unitWidths ≤ length (now part) ⌝ }
     ensures { λ r. ⌜ r ≡ assembled (now (part .entry)) rise fall day ⌝ }
 {
+    let upstage = byte(part, 32);
+    let downstage = byte(part, 33);
     let rises = rise.outputs;
     let falls = fall.outputs;
     let prices = day.prices;
@@ -122,8 +124,8 @@ fn read_unit(part: &[u8], rise: Trajectory, fall: Trajectory, day: Day) -> Case
         stopcost: mills(part, 24),
         initial: Output(word(part, 28)),
         elapsed: Hour(word(part, 30)),
-        upstage: byte(part, 32),
-        downstage: byte(part, 33),
+        upstage: upstage,
+        downstage: downstage,
         rise: rises,
         fall: falls,
         prices: prices,

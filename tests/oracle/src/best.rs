@@ -61,29 +61,46 @@ fn keep_better(best: &mut Option<Plan>, profit: i64, list: &[u16]) {
 
 /// The same search with prefixes left out, for longer days.
 ///
-/// The lists are sorted by commitment, that is by which hours are on-line, and every commitment is
-/// tried. A commitment settles v, y and z of the whole day, hours past the prefix included. The
-/// rules at hour k then read nothing else than p(k-1) and p(k): each of (1) to (4), (11) and (12)
-/// names p(k) alone, (5) and (6) name p(k) and p(k-1), (7) to (10) and 21 to 23 name none. So if a
-/// rule breaks at hour k, it breaks in every list of this commitment with the same outputs up to
-/// hour k, and none of them need be tried.
+/// The lists are sorted by commitment, that is by which hours are on-line and by the stage of a stop
+/// after T, if there is one, and every commitment is tried. A commitment settles v, y and z of all hours,
+/// those past the prefix included. The rules at hour k then read nothing else than p(k-1) and p(k): each
+/// of (1) to (4), (11) and (12) names p(k) alone, (5) and (6) name p(k) and p(k-1), (7) to (10) and 21 to
+/// 23 name none. So if a rule breaks at hour k, it breaks in every list of this commitment with the same
+/// outputs up to hour k, and none of them need be tried. Of the lists that are left, those count whose
+/// last output gives the stop after T of the commitment.
 pub fn by_commitment(case: &Case) -> Option<Plan> {
     let mut day = Day::new(case);
     let mut list = vec![0; case.t];
     let mut best = None;
     for on_line in 0..1u64 << case.t {
         day.set_commitment(on_line);
-        if day.broken_at(0).is_none() {
-            extend(case, &mut day, on_line, 1, &mut list, &mut best);
+        for closing in day.closings() {
+            day.set_closing(closing);
+            if day.broken_at(0).is_none() {
+                extend(case, &mut day, (on_line, closing), 1, &mut list, &mut best);
+            }
         }
     }
     best
 }
 
+/// Which hours are on-line, and the stage of a stop after T.
+type Commitment = (u64, Option<usize>);
+
 /// Tries every output of hour k within the commitment, and goes on where no rule breaks.
-fn extend(case: &Case, day: &mut Day, on_line: u64, k: usize, list: &mut [u16], best: &mut Option<Plan>) {
+fn extend(
+    case: &Case,
+    day: &mut Day,
+    commitment: Commitment,
+    k: usize,
+    list: &mut [u16],
+    best: &mut Option<Plan>,
+) {
+    let (on_line, closing) = commitment;
     if k > case.t {
-        keep_better(best, profit(case, list), list);
+        if day.closing() == closing && day.first_breach_from(k as i64).is_none() {
+            keep_better(best, profit(case, list), list);
+        }
         return;
     }
     let is_on_line = on_line >> (k - 1) & 1 == 1;
@@ -92,7 +109,7 @@ fn extend(case: &Case, day: &mut Day, on_line: u64, k: usize, list: &mut [u16], 
         day.set_output(k, output);
         list[k - 1] = output;
         if day.broken_at(k as i64).is_none() {
-            extend(case, day, on_line, k + 1, list, best);
+            extend(case, day, commitment, k + 1, list, best);
         }
     }
 }

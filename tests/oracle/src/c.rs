@@ -8,7 +8,7 @@ use crate::pair;
 use std::slice;
 
 /// Bytes of the record, which goes by value.
-const _: () = assert!(std::mem::size_of::<Case>() == 328);
+const _: () = assert!(std::mem::size_of::<Case>() == 336);
 
 /// What reading gives.
 #[repr(C)]

@@ -1,5 +1,6 @@
 //! The case record (scope, "Case file"): the fields of a case and the counts UD, DD and T. Prices are signed 32-bit
-//! numbers of mills (request F-2), and so are the costs: 32 bits of a file of 2^31 or more are a cost below zero.
+//! numbers of mills (request F-2), and so are the costs: 32 bits of a file of 2^31 or more are a cost below zero. A day
+//! may open inside a start or a stop (request F-5).
 
 /// Most entries of a start-up or shut-down trajectory.
 pub const MOST_STAGES: usize = 8;
@@ -33,6 +34,9 @@ pub struct Case {
     /// Output p(0), and the hours the unit has been on-line or off-line before hour 1.
     pub p0: u16,
     pub h: u16,
+    /// The stage of a start-up or of a shut-down that p(0) has reached, or 0.
+    pub up_stage: u8,
+    pub down_stage: u8,
     /// Start-up trajectory PU and shut-down trajectory PD.
     pub pu: [u16; MOST_STAGES],
     pub pd: [u16; MOST_STAGES],
@@ -60,6 +64,8 @@ impl Case {
         c: 0,
         p0: 0,
         h: 0,
+        up_stage: 0,
+        down_stage: 0,
         pu: [0; MOST_STAGES],
         pd: [0; MOST_STAGES],
         prices: [0; MOST_HOURS],

@@ -1,14 +1,17 @@
-//! Random files of both forms, most of them damaged: bits, lengths, sections, pairs, forms, limits and counts of hours.
+//! Random files of the three forms, most of them damaged: bits, lengths, sections, pairs, forms, limits and counts of
+//! hours.
 
 use crate::case::{Case, MOST_HOURS};
-use crate::file::{assemble, assemble_with_gap, old_sections, sections};
+use crate::file::{assemble, assemble_with_gap, old_sections, sections, sections_before, Form};
 use crate::random::Rng;
-use crate::refusals::{HOUR_BYTES, OLD_HOUR_BYTES, PAIR_BYTES};
-use crate::units::{full_day, longer_day, set_old_prices, small_unit};
+use crate::refusals::{FORM, FORM_BEFORE, HOUR_BYTES, OLD_HOUR_BYTES, PAIR_BYTES};
+use crate::stages::small_staged;
+use crate::units::{clear_stages, full_day, longer_day, set_old, small_unit};
 use crate::wild::set_near_limit;
 
-/// Form numbers that come up most: 512 is 2 with its bytes swapped, 258 is 2 with another high byte.
-const FORM_NUMBERS: [u16; 10] = [0, 1, 2, 3, 4, 255, 256, 258, 512, 65_535];
+/// Form numbers that come up most: 512 and 768 are 2 and 3 with their bytes swapped, 258 and 259 are 2 and 3 with
+/// another high byte.
+const FORM_NUMBERS: [u16; 12] = [0, 1, 2, 3, 4, 255, 256, 258, 259, 512, 768, 65_535];
 
 /// Lengths of a form section.
 const FORM_LENGTHS: [usize; 8] = [0, 1, 2, 3, 4, 5, 256, 258];
@@ -16,16 +19,15 @@ const FORM_LENGTHS: [usize; 8] = [0, 1, 2, 3, 4, 5, 256, 258];
 /// The file of a random case with one damage, or more once in a while.
 pub fn damaged_file(rng: &mut Rng) -> Vec<u8> {
     let mut case = any_case(rng);
-    let old = rng.once_in(2);
-    if old {
-        set_old_prices(&mut case);
-    }
+    let form =
+        rng.pick(&[Form::Old, Form::Numbered(FORM_BEFORE), Form::Numbered(FORM), Form::Numbered(FORM)]);
+    bring_to(rng, &mut case, form);
     match rng.below(7) {
-        0 | 1 => beyond_a_limit(rng, case, old),
-        2 => of_another_form(rng, &case, old),
-        3 => of_other_hours(rng, &case, old),
+        0 | 1 => beyond_a_limit(rng, case, form),
+        2 => of_another_form(rng, &case, form),
+        3 => of_other_hours(rng, &case, form),
         _ => {
-            let mut parts = sections_of(&case, old);
+            let mut parts = sections_of(&case, form);
             if rng.once_in(3) {
                 damage_sections(rng, &mut parts);
             }
@@ -40,40 +42,50 @@ pub fn damaged_file(rng: &mut Rng) -> Vec<u8> {
 
 /// A case within the limits.
 fn any_case(rng: &mut Rng) -> Case {
-    match rng.below(3) {
+    match rng.below(4) {
         0 => small_unit(rng),
         1 => longer_day(rng),
+        2 => small_staged(rng),
         _ => full_day(rng),
     }
 }
 
-/// The sections of a case: four of the old form, or five of form 2.
-fn sections_of(case: &Case, old: bool) -> Vec<Vec<u8>> {
-    if old {
-        old_sections(case).to_vec()
-    } else {
-        sections(case).to_vec()
+/// Makes a case one that a file of this form can hold.
+fn bring_to(rng: &mut Rng, case: &mut Case, form: Form) {
+    match form {
+        Form::Old => set_old(rng, case),
+        Form::Numbered(FORM) => {}
+        Form::Numbered(_) => clear_stages(rng, case),
+    }
+}
+
+/// The sections of a case: four of the old form, or five.
+fn sections_of(case: &Case, form: Form) -> Vec<Vec<u8>> {
+    match form {
+        Form::Old => old_sections(case).to_vec(),
+        Form::Numbered(FORM) => sections(case).to_vec(),
+        Form::Numbered(_) => sections_before(case).to_vec(),
     }
 }
 
 /// A whole file with one to three fields at a limit or past it, once in a while with another form number.
-fn beyond_a_limit(rng: &mut Rng, mut case: Case, old: bool) -> Vec<u8> {
+fn beyond_a_limit(rng: &mut Rng, mut case: Case, form: Form) -> Vec<u8> {
     for _ in 0..rng.pick(&[1, 1, 1, 2, 2, 3]) {
         set_near_limit(rng, &mut case);
     }
-    let mut parts = sections_of(&case, old);
-    if !old && rng.once_in(8) {
+    let mut parts = sections_of(&case, form);
+    if form != Form::Old && rng.once_in(8) {
         parts[4] = rng.pick(&FORM_NUMBERS).to_le_bytes().to_vec();
     }
     assemble(&parts)
 }
 
 /// A whole file of the hours of a case over and over, in a section of which a count may be wrong.
-fn of_other_hours(rng: &mut Rng, case: &Case, old: bool) -> Vec<u8> {
-    let mut parts = sections_of(case, old);
+fn of_other_hours(rng: &mut Rng, case: &Case, form: Form) -> Vec<u8> {
+    let mut parts = sections_of(case, form);
     let before: usize = parts[..3].iter().map(Vec::len).sum();
     let room = 65_535 - PAIR_BYTES * parts.len() - before;
-    let length = length_to_count(rng, if old { OLD_HOUR_BYTES } else { HOUR_BYTES }, room);
+    let length = length_to_count(rng, if form == Form::Old { OLD_HOUR_BYTES } else { HOUR_BYTES }, room);
     parts[3] = parts[3].iter().copied().cycle().take(length).collect();
     assemble(&parts)
 }
@@ -94,22 +106,22 @@ fn length_to_count(rng: &mut Rng, size: usize, room: usize) -> usize {
 }
 
 /// What one form has, under the pairs of the other; other first offsets; form sections and form numbers.
-fn of_another_form(rng: &mut Rng, case: &Case, old: bool) -> Vec<u8> {
-    let (four, five) = (old_sections(case), sections(case));
-    let [unit, start_up, shut_down, hours, form] = five.clone();
-    let [.., old_hours] = four.clone();
-    match rng.below(12) {
+fn of_another_form(rng: &mut Rng, case: &Case, form: Form) -> Vec<u8> {
+    let five = if rng.once_in(3) { sections_before(case) } else { sections(case) };
+    let [unit, start_up, shut_down, hours, number] = five.clone();
+    let [.., old_hours] = old_sections(case);
+    match rng.below(14) {
         // the hours of the other form
-        0 => assemble(&[unit, start_up, shut_down, old_hours, form]),
+        0 => assemble(&[unit, start_up, shut_down, old_hours, number]),
         1 => assemble(&[unit, start_up, shut_down, hours]),
         // the form section under no pair, and at the end of the hours
-        2 => [assemble(&[unit, start_up, shut_down, hours]), form].concat(),
-        3 => assemble(&[unit, start_up, shut_down, [hours, form].concat()]),
+        2 => [assemble(&[unit, start_up, shut_down, hours]), number].concat(),
+        3 => assemble(&[unit, start_up, shut_down, [hours, number].concat()]),
         // five pairs, the last of nothing; five pairs of the old form
         4 => assemble(&[unit, start_up, shut_down, old_hours, Vec::new()]),
         // hours of 4 bytes
         5 => {
-            let mut parts = sections_of(case, old);
+            let mut parts = sections_of(case, form);
             resize(rng, &mut parts[3], 4 * case.t);
             assemble(&parts)
         }
@@ -117,10 +129,10 @@ fn of_another_form(rng: &mut Rng, case: &Case, old: bool) -> Vec<u8> {
         6 => {
             let count = rng.pick(&[1, 2, 2, 4, 4, 4, 8, 12]);
             let gap = rng.bytes(count);
-            assemble_with_gap(&sections_of(case, old), &gap)
+            assemble_with_gap(&sections_of(case, form), &gap)
         }
         // a sixth section
-        7 => assemble(&[unit, start_up, shut_down, hours, form.clone(), form]),
+        7 => assemble(&[unit, start_up, shut_down, hours, number.clone(), number]),
         // another form number, alone, or with a length that no form has
         8 | 9 => {
             let mut parts = five.to_vec();
@@ -139,13 +151,18 @@ fn of_another_form(rng: &mut Rng, case: &Case, old: bool) -> Vec<u8> {
             resize(rng, &mut parts[4], length);
             assemble(&parts)
         }
+        // the unit of another form
+        11 | 12 => {
+            let mut parts = sections_of(case, form);
+            parts[0] = rng.pick(&[&sections(case)[0], &sections_before(case)[0]]).clone();
+            assemble(&parts)
+        }
         // hardly more than the pairs
         _ => {
-            let count = rng.pick(&[4, 5]);
             let mut file = if rng.once_in(2) {
-                assemble(&vec![Vec::new(); count])
+                assemble(&vec![Vec::new(); rng.pick(&[4, 5])])
             } else {
-                assemble(&sections_of(case, count == 4))
+                assemble(&sections_of(case, form))
             };
             let length = rng.place(14, 21);
             resize(rng, &mut file, length);
@@ -172,7 +189,7 @@ fn damage_sections(rng: &mut Rng, parts: &mut [Vec<u8>]) {
 /// A length at or next to a limit of the section.
 fn section_length_near_limit(rng: &mut Rng, section: usize, old: bool) -> usize {
     match section {
-        0 => rng.pick(&[0, 16, 30, 31, 32, 33, 34, 64]),
+        0 => rng.pick(&[0, 16, 30, 31, 32, 33, 34, 35, 36, 64]),
         1 | 2 => rng.pick(&[0, 1, 2, 3, 4, 15, 16, 17, 18, 32, 256, 258]),
         3 if old => rng.pick(&[0, 1, 2, 3, 4, 5, 6, 142, 143, 144, 145, 146, 147, 288, 256, 768]),
         3 => rng.pick(&[0, 1, 3, 4, 5, 6, 9, 10, 144, 235, 239, 240, 241, 245, 256, 480, 1_280]),

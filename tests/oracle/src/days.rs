@@ -9,10 +9,11 @@ pub enum Question {
     Check(Vec<u16>),
 }
 
-/// What the table answers.
+/// What the table answers: to a search that a list is found, to a check that the list passes or breaks a rule.
 #[derive(Clone, Debug, PartialEq)]
 pub enum Answer {
     Found { list: Vec<u16>, profit: i64 },
+    Passes { profit: i64 },
     Breaks { hour: u32, rule: u32 },
     Refused(u32),
 }
@@ -64,7 +65,8 @@ pub fn with_orders(mut case: Case, orders: &[u8]) -> Case {
     case
 }
 
-/// Cases 1 to 12, and the list 1, 0 of the known unit from p(0) 0, which breaks 4 at hour 0.
+/// Cases 1 to 12, of which 4 and 6 close inside a stop (request F-5), and the list 1, 0 of the known unit from p(0) 0,
+/// which breaks 4 at hour 0.
 pub fn known_days() -> Vec<KnownDay> {
     let price_10 = [10];
     let case_8 = known_unit(0, &[10; 4]);
@@ -73,15 +75,15 @@ pub fn known_days() -> Vec<KnownDay> {
         found("1", known_unit(0, &price_10), &[0], 0),
         found("2", known_unit(0, &[18]), &[0], 0),
         found("3", known_unit(0, &[19]), &[1], 1),
-        found("4", known_unit(2, &price_10), &[2], -2),
+        found("4", known_unit(2, &price_10), &[1], -2),
         found("5", known_unit(2, &[5, 5]), &[1, 0], -26),
-        found("6", known_unit(3, &[5, 5]), &[2, 2], -49),
+        found("6", known_unit(3, &[5, 5]), &[2, 1], -44),
         found("7", known_unit(3, &[5, 5, 5]), &[2, 1, 0], -53),
         found("8", with_orders(case_8, &[FREE, ON_LINE, FREE, OFF_LINE]), &[1, 2, 1, 0], -16),
         breaks("9", known_unit(0, &price_10), &[2], 1, 3),
         breaks("10", known_unit(2, &price_10), &[4], 1, 5),
-        refused("11", with_orders(case_11, &[ON_LINE])),
-        refused("12", with_orders(case_8, &[OFF_LINE, ON_LINE, FREE, OFF_LINE])),
+        refused("11", with_orders(case_11, &[ON_LINE]), 11),
+        refused("12", with_orders(case_8, &[OFF_LINE, ON_LINE, FREE, OFF_LINE]), 11),
         breaks("4 at hour 0", known_unit(0, &[10; 2]), &[1, 0], 0, 4),
     ]
 }
@@ -92,15 +94,21 @@ pub fn found(name: &'static str, case: Case, list: &[u16], profit: i64) -> Known
     KnownDay { name, case, question: Question::BestList, answer }
 }
 
+/// A row whose list is checked and passes.
+pub fn passes(name: &'static str, case: Case, list: &[u16], profit: i64) -> KnownDay {
+    let question = Question::Check(list.to_vec());
+    KnownDay { name, case, question, answer: Answer::Passes { profit } }
+}
+
 /// A row whose list is checked and breaks a rule.
-fn breaks(name: &'static str, case: Case, list: &[u16], hour: u32, rule: u32) -> KnownDay {
+pub fn breaks(name: &'static str, case: Case, list: &[u16], hour: u32, rule: u32) -> KnownDay {
     let question = Question::Check(list.to_vec());
     KnownDay { name, case, question, answer: Answer::Breaks { hour, rule } }
 }
 
-/// A row whose best list is asked for and refused with 11.
-fn refused(name: &'static str, case: Case) -> KnownDay {
-    KnownDay { name, case, question: Question::BestList, answer: Answer::Refused(11) }
+/// A row whose best list is asked for and refused.
+pub fn refused(name: &'static str, case: Case, number: u32) -> KnownDay {
+    KnownDay { name, case, question: Question::BestList, answer: Answer::Refused(number) }
 }
 
 /// A case of the known unit from 2 MW and of two hours or more, changed in ways that are refused, each with its number:

@@ -1,6 +1,7 @@
 //! The best list of a full-size day by a dynamic programme. It renders the source's section II-A
 //! in words instead of constraints: a unit is off-line, on its start-up trajectory, on-line between
-//! minimum output and capacity, or on its shut-down trajectory; it must be held against `best`.
+//! minimum output and capacity, or on its shut-down trajectory; a day may open and close in any of these
+//! (request F-5). It must be held against `best`.
 
 use crate::best::Plan;
 use crate::case::{Case, OFF_LINE, ON_LINE};
@@ -28,13 +29,15 @@ fn hours_before_fall(case: &Case) -> usize {
     (usize::from(case.min_up) + 1).saturating_sub(case.dd).max(1)
 }
 
-/// The state at the end of hour 0.
-fn opening(case: &Case) -> State {
+/// The state at the end of hour 0; none if p(0) is on a shut-down trajectory whose stop comes before the minimum up
+/// time. At PD(j) in hour 0 the stop is at DD + 1 - j, which is h + DD - j hours after the start.
+fn opening(case: &Case) -> Option<State> {
     let hours = usize::from(case.h);
-    if case.p0 == 0 {
-        State::Off(hours.min(usize::from(case.min_down)))
-    } else {
-        State::On(hours.min(hours_before_fall(case)), case.p0)
+    match (usize::from(case.up_stage), usize::from(case.down_stage)) {
+        (0, 0) if case.p0 == 0 => Some(State::Off(hours.min(usize::from(case.min_down)))),
+        (0, 0) => Some(State::On(hours.min(hours_before_fall(case)), case.p0)),
+        (0, j) => (hours + case.dd - j >= usize::from(case.min_up)).then_some(State::Falling(j)),
+        (i, _) => Some(State::Rising(i)),
     }
 }
 
@@ -48,8 +51,7 @@ fn output(case: &Case, state: State) -> u16 {
     }
 }
 
-/// Visits the states that may follow within the day, lowest output first. No two of them have the
-/// same output.
+/// Visits the states that may follow, lowest output first. No two of them have the same output.
 fn for_each_next(case: &Case, state: State, mut visit: impl FnMut(State)) {
     match state {
         State::Off(hours) => {
@@ -129,13 +131,11 @@ impl Values {
         }
     }
 
-    /// The values at the end of hour T: a start may be cut by the end of the day, a stop may not.
+    /// The values at the end of hour T: a start or a stop may be cut by the end of the day.
     fn at_end(case: &Case) -> Values {
         let mut values = Values::none(case);
         for state in all_states(case) {
-            if !matches!(state, State::Falling(_)) {
-                values.set(state, Some(0));
-            }
+            values.set(state, Some(0));
         }
         values
     }
@@ -226,7 +226,7 @@ impl<'a> KeptLists<'a> {
     /// The best list with its profit, the lowest list among equal earners; none if no list keeps every
     /// rule.
     pub fn best(&self) -> Option<Plan> {
-        let profit = self.values[0].get(opening(self.case))?;
+        let profit = self.values[0].get(opening(self.case)?)?;
         let list = self.walk(|steps, wanted| steps.iter().copied().find(|&(_, value)| value == wanted));
         Some(Plan { profit, list: list.expect("a state with a value has a step that reaches it") })
     }
@@ -244,7 +244,7 @@ impl<'a> KeptLists<'a> {
     /// The list of the steps that are chosen hour by hour, from those after which the day can be ended,
     /// lowest output first, each with what it earns, and from the most that can be earned.
     fn walk(&self, mut choose: impl FnMut(&[Step], i64) -> Option<Step>) -> Option<Vec<u16>> {
-        let mut state = opening(self.case);
+        let mut state = opening(self.case)?;
         let mut list = Vec::new();
         for k in 1..=self.case.t {
             let wanted = self.values[k - 1].get(state)?;

@@ -1,9 +1,11 @@
-//! The case file (scope, "Case file"; request F-2): pairs of offset and length, then the sections unit, start-up
-//! trajectory, shut-down trajectory and hours, and in a file of five pairs the form number after them. Numbers stand
-//! least significant byte first.
+//! The case file (scope, "Case file"; requests F-2 and F-5): pairs of offset and length, then the sections unit,
+//! start-up trajectory, shut-down trajectory and hours, and in a file of five pairs the form number after them. The
+//! unit of form 3 ends with the two stages. Numbers stand least significant byte first.
 
 use crate::case::Case;
-use crate::refusals::{self, HOUR_BYTES, LEAST_BYTES, OLD_HOUR_BYTES, PAIR_BYTES};
+use crate::refusals::{
+    self, FORM, FORM_BEFORE, HOUR_BYTES, LEAST_BYTES, OLD_HOUR_BYTES, OLD_UNIT_BYTES, PAIR_BYTES,
+};
 use std::ops::RangeInclusive;
 
 /// Prices that a file of the old form can hold: 16-bit numbers without a sign.
@@ -54,23 +56,25 @@ fn held_by_four(file: &[u8]) -> Result<(Form, Case), u32> {
     Ok((Form::Old, case))
 }
 
-/// Five pairs: hours of a signed 32-bit price and an order, and the form number.
+/// Five pairs: hours of a signed 32-bit price and an order, and the form number, which says how long the unit is.
 fn held_by_five(file: &[u8]) -> Result<(Form, Case), u32> {
     if file.len() < 5 * PAIR_BYTES {
         return Err(1);
     }
     let pairs: [(usize, usize); 5] = read_pairs(file);
     refusals::pairs(&pairs, file.len())?;
-    refusals::lengths(pairs.map(|(_, length)| length))?;
     let [unit, start_up, shut_down, hours, form] =
         pairs.map(|(offset, length)| &file[offset..offset + length]);
+    refusals::form_length(form.len())?;
+    let form = number16(form, 0);
+    refusals::lengths(form, [unit, start_up, shut_down, hours].map(<[u8]>::len))?;
     let mut case = read_unit(unit, start_up, shut_down);
     case.t = hours.len() / HOUR_BYTES;
     for (i, hour) in hours.chunks(HOUR_BYTES).enumerate() {
         case.prices[i] = signed32(hour, 0);
         case.orders[i] = hour[4];
     }
-    Ok((Form::Numbered(number16(form, 0)), case))
+    Ok((Form::Numbered(form), case))
 }
 
 /// So many pairs of offset and length.
@@ -79,7 +83,8 @@ fn read_pairs<const PAIRS: usize>(file: &[u8]) -> [(usize, usize); PAIRS] {
     std::array::from_fn(|i| (number(PAIR_BYTES * i), number(PAIR_BYTES * i + 2)))
 }
 
-/// The fields of the unit's section, and the trajectories, in sections of fitting length.
+/// The fields of the unit's section, and the trajectories, in sections of fitting length. A unit without stages has
+/// stages 0.
 fn read_unit(unit: &[u8], start_up: &[u8], shut_down: &[u8]) -> Case {
     let mut case = Case {
         capacity: number16(unit, 0),
@@ -94,6 +99,8 @@ fn read_unit(unit: &[u8], start_up: &[u8], shut_down: &[u8]) -> Case {
         c: signed32(unit, 24),
         p0: number16(unit, 28),
         h: number16(unit, 30),
+        up_stage: unit.get(OLD_UNIT_BYTES).copied().unwrap_or(0),
+        down_stage: unit.get(OLD_UNIT_BYTES + 1).copied().unwrap_or(0),
         ud: start_up.len() / 2,
         dd: shut_down.len() / 2,
         ..Case::ZERO
@@ -119,49 +126,76 @@ fn signed32(bytes: &[u8], at: usize) -> i32 {
     i32::try_from(signed).expect("a signed number of 32 bits")
 }
 
-/// Writes a record in form 2: the file's bytes, or the number of the refusal (2 to 8, 13).
+/// Writes a record in form 3: the file's bytes, or the number of the refusal (2 to 8, 13).
 pub fn write(case: &Case) -> Result<Vec<u8>, u32> {
     refusals::record(case)?;
     Ok(assemble(&sections(case)))
 }
 
+/// The file of form 2 that a case within the limits was read from, if there can be one: it has no stages.
+pub fn file_before(case: &Case) -> Option<Vec<u8>> {
+    (!has_stage(case)).then(|| assemble(&sections_before(case)))
+}
+
 /// The file of the old form that a case within the limits was read from, if there can be one.
 pub fn old_file(case: &Case) -> Option<Vec<u8>> {
     let old = case.prices[..case.t].iter().all(|price| OLD_PRICES.contains(price));
-    old.then(|| assemble(&old_sections(case)))
+    (old && !has_stage(case)).then(|| assemble(&old_sections(case)))
 }
 
-/// The five sections of form 2 of a record whose counts fit, without any other test.
+/// Whether a stage is set.
+fn has_stage(case: &Case) -> bool {
+    (case.up_stage, case.down_stage) != (0, 0)
+}
+
+/// The five sections of form 3 of a record whose counts fit, without any other test.
 pub fn sections(case: &Case) -> [Vec<u8>; 5] {
-    let [unit, start_up, shut_down] = unit_sections(case);
+    let mut unit = unit_section(case);
+    unit.extend([case.up_stage, case.down_stage]);
+    sections_with(unit, case, FORM)
+}
+
+/// The five sections of form 2; the stages are left out.
+pub fn sections_before(case: &Case) -> [Vec<u8>; 5] {
+    sections_with(unit_section(case), case, FORM_BEFORE)
+}
+
+/// This unit with the other sections of a file of five pairs.
+fn sections_with(unit: Vec<u8>, case: &Case, form: u16) -> [Vec<u8>; 5] {
     let mut hours = Vec::new();
     for i in 0..case.t {
         hours.extend(case.prices[i].to_le_bytes());
         hours.push(case.orders[i]);
     }
-    [unit, start_up, shut_down, hours, refusals::FORM.to_le_bytes().to_vec()]
+    let [start_up, shut_down] = trajectory_sections(case);
+    [unit, start_up, shut_down, hours, form.to_le_bytes().to_vec()]
 }
 
-/// The four sections of the old form; prices are cut to 16 bits.
+/// The four sections of the old form; the stages are left out, and prices are cut to 16 bits.
 pub fn old_sections(case: &Case) -> [Vec<u8>; 4] {
-    let [unit, start_up, shut_down] = unit_sections(case);
     let mut hours = Vec::new();
     for i in 0..case.t {
         hours.extend((case.prices[i] as u16).to_le_bytes());
         hours.push(case.orders[i]);
     }
-    [unit, start_up, shut_down, hours]
+    let [start_up, shut_down] = trajectory_sections(case);
+    [unit_section(case), start_up, shut_down, hours]
 }
 
-/// The sections that every form has: the unit's and the trajectories.
-fn unit_sections(case: &Case) -> [Vec<u8>; 3] {
+/// The bytes of the unit's section that every form has.
+fn unit_section(case: &Case) -> Vec<u8> {
     let limits = [case.capacity, case.minimum, case.ramp_up, case.ramp_down, case.min_up, case.min_down];
     let mut unit = bytes16(&limits);
     for cost in [case.f, case.a, case.b, case.c] {
         unit.extend(cost.to_le_bytes());
     }
     unit.extend(bytes16(&[case.p0, case.h]));
-    [unit, bytes16(&case.pu[..case.ud]), bytes16(&case.pd[..case.dd])]
+    unit
+}
+
+/// The sections of the trajectories.
+fn trajectory_sections(case: &Case) -> [Vec<u8>; 2] {
+    [bytes16(&case.pu[..case.ud]), bytes16(&case.pd[..case.dd])]
 }
 
 /// The bytes of 16-bit numbers.

@@ -6,6 +6,7 @@ use crate::answers::Schedule;
 use crate::calendar::Calendar;
 use crate::case::{Case, MOST_HOURS, OFF_LINE, ON_LINE};
 use crate::days::{known_unit, refused_cases, source_day, with_orders, SOURCE_LIST, SOURCE_PROFIT};
+use crate::opening::Opening;
 use crate::refusals::WORKING_NUMBERS;
 use std::ops::RangeInclusive;
 
@@ -32,14 +33,14 @@ impl KnownCalendar {
 }
 
 /// How many calendars there are.
-pub const COUNT: u64 = 449;
+pub const COUNT: u64 = 458;
 
 /// All calendars, by the sentences of the request.
 pub fn known_calendars() -> Vec<KnownCalendar> {
     let filled =
         [windows(), edges_of_the_day(), edges_of_the_year(), both_lists(), trajectories(), replaced()];
     let refused = [lists_not_as_laid_down(), days_not_as_laid_down(), in_both_lists(), other_hours()];
-    let first = [before_the_case(), refused_records(), short_memory()];
+    let first = [before_the_case(), refused_records(), short_memory(), inside_a_sequence()];
     [filled.concat(), refused.concat(), first.concat()].concat()
 }
 
@@ -142,26 +143,26 @@ fn both_lists() -> Vec<KnownCalendar> {
     .concat()
 }
 
-/// The unit of the known days at price 10, margin 0: an on-line hour costs 2 A = 2, a start 2 B = 6 and a stop
-/// 2 C = 4 half-mills. From 0 MW an on-line hour asks for 1, 2, 1, 0, which costs 3 * 2 + 6 + 4 = 16, as case 8 of the
-/// known days does; the lowest list begins it at that hour. Four hours before the end of the day, 1, 2, 2, 2 costs
-/// 4 * 2 + 6 = 14, and at the last hour 1 costs 2 + 6 = 8. From 2 MW the unit shuts down, 1, 0, which costs 2 + 4 = 6,
-/// unless it is ordered on-line all day, at 2 for each hour; off-line at hour 1 it cannot be. The source's day keeps
-/// its list where the calendar orders what the list does.
+/// The unit of the known days at price 10, margin 0: an on-line hour costs 2 A = 2, a start 2 B = 6 and a stop 2 C = 4
+/// half-mills. From 0 MW an on-line hour asks for 1, 2, 1, 0, which costs 3 * 2 + 6 + 4 = 16, as case 8 of the known
+/// days does; the lowest list begins it at that hour. Four hours before the end of the day, 1, 2, 2, 1 costs
+/// 4 * 2 + 6 = 14 and closes on PD(2), and at the last hour 1 costs 2 + 6 = 8. From 2 MW the unit shuts down, 1, 0, for
+/// 2 + 4 = 6, unless it is ordered on-line all day, at 2 for each hour, the last on PD(2); off-line at hour 1 it cannot
+/// be. The source's day keeps its list where the calendar orders what the list does.
 fn trajectories() -> Vec<KnownCalendar> {
     let (off, on) = (known_unit(0, &[10; 24]), known_unit(2, &[10; 24]));
     let like_the_list: Lists = (&[1_000, 4, 1_007, 17], &[1_004, 3]);
     vec![
         found("a start in the day", off, (&[1_005, 1], &[]), at(6, &[1, 2, 1]), -16),
-        found("a start before the end", off, (&[1_020, 1], &[]), at(21, &[1, 2, 2, 2]), -14),
+        found("a start before the end", off, (&[1_020, 1], &[]), at(21, &[1, 2, 2, 1]), -14),
         found("a start at the last hour", off, (&[1_023, 9], &[]), at(24, &[1]), -8),
         found("the orders of case 8", off, (&[1_001, 1], &[1_003, 1]), at(1, &[1, 2, 1]), -16),
         found("off-line all day", off, (&[], &[0, 8_784]), at(1, &[]), 0),
         found("a stop of its own", on, (&[], &[]), at(1, &[1]), -6),
         found("off-line from hour 2", on, (&[], &[1_001, 99]), at(1, &[1]), -6),
-        found("on-line for 24 hours", on, (&[999, 99], &[]), vec![2; 24], -48),
-        found("on-line for 23 hours", known_unit(2, &[10; 23]), (&[999, 99], &[]), vec![2; 23], -46),
-        found("on-line for 25 hours", known_unit(2, &[10; 25]), (&[999, 99], &[]), vec![2; 25], -50),
+        found("on-line for 24 hours", on, (&[999, 99], &[]), kept_on_line(24), -48),
+        found("on-line for 23 hours", known_unit(2, &[10; 23]), (&[999, 99], &[]), kept_on_line(23), -46),
+        found("on-line for 25 hours", known_unit(2, &[10; 25]), (&[999, 99], &[]), kept_on_line(25), -50),
         refused("off-line at hour 1", on, (&[], &[1_000, 1]), FIRST, 11),
         refused("on-line all day, off-line at hour 1", on, (&[1_001, 99], &[0, 1_001]), FIRST, 11),
         refused("the orders of case 12", off, (&[1_001, 1], &[1_000, 1, 1_003, 1]), FIRST, 11),
@@ -359,9 +360,9 @@ fn short_memory() -> Vec<KnownCalendar> {
     let (free, none): (Lists, Lists) = ((&[], &[]), (&[], &[1_000, 1]));
     let short =
         |name, lists, numbers, outputs| with_memory(refused(name, on, lists, FIRST, 10), numbers, outputs);
-    let day_23 =
-        with_memory(found("", known_unit(2, &[10; 23]), (&[0, 8_784], &[]), vec![2; 23], -46), 8_192, 23);
-    let long = found("more than enough", on, (&[0, 8_784], &[]), vec![2; 24], -48);
+    let all: Lists = (&[0, 8_784], &[]);
+    let day_23 = found("23 outputs for 23 hours", known_unit(2, &[10; 23]), all, kept_on_line(23), -46);
+    let long = found("more than enough", on, all, kept_on_line(24), -48);
     vec![
         short("8,191 numbers", free, 8_191, 24),
         short("no numbers", free, 0, 24),
@@ -371,9 +372,34 @@ fn short_memory() -> Vec<KnownCalendar> {
         short("8,191 numbers and no list", none, 8_191, 24),
         short("23 outputs and no list", none, 8_192, 23),
         with_memory(refused_day("T 24 of 23, no memory", on, free, (FIRST, 23), 2), 0, 0),
-        KnownCalendar { name: "23 outputs for 23 hours", ..day_23 },
+        with_memory(day_23, 8_192, 23),
         with_memory(long, 8_200, 48),
         with_memory(refused("no list, more than enough", on, none, FIRST, 11), 8_200, 48),
+    ]
+}
+
+/// Days inside a sequence (request F-5), of the known unit at price 10. From PU(1) hour 1 is at 2 and hour 2 at 1,
+/// which costs 2 + 2 + 4; ordered on-line at hour 3 it is at 2, 2, 1, 0, which costs 3 * 2 + 4 = 10; off-line at hour 1
+/// it cannot be. From PD(2) hour 1 is off-line, which costs 4, and cannot be ordered on-line. Ordered on-line at the
+/// last hour from 2 MW, a day of 24 hours starts up there, 1, 0 .. 0, 1, for 2 + 4 + 2 + 6 = 14. A stage that is not in
+/// order is 7, after 14 and 15 and after 2.
+fn inside_a_sequence() -> Vec<KnownCalendar> {
+    let on = known_unit(2, &[10; 24]);
+    let opened = |p0, h, up_stage, down_stage| Opening { p0, h, up_stage, down_stage }.set(&on);
+    let (rising, falling, both) = (opened(1, 1, 1, 0), opened(1, 3, 0, 2), opened(1, 1, 1, 2));
+    let first_off: Lists = (&[], &[1_000, 1]);
+    let [start, end] = [[2, 1].as_slice(), &[1]].map(|outputs| at(1, outputs));
+    let restarted = [&end[..23], &[1]].concat();
+    vec![
+        found("a start goes on", rising, (&[], &[]), start, -8),
+        found("a start goes on, on-line at hour 3", rising, (&[1_002, 1], &[]), at(1, &[2, 2, 1]), -10),
+        refused("a start goes on, off-line at hour 1", rising, first_off, FIRST, 11),
+        found("a stop goes on", falling, first_off, at(1, &[]), -4),
+        refused("a stop goes on, on-line at hour 1", falling, (&[1_000, 1], &[]), FIRST, 11),
+        found("on-line at the last hour", on, (&[1_023, 1], &[]), restarted, -14),
+        refused("both stages", both, (&[], &[]), FIRST, 7),
+        refused("both stages, an hour in both lists", both, (&[1_000, 1], &[1_000, 1]), FIRST, 15),
+        refused_day("both stages, T 24 of 23", both, (&[], &[]), (FIRST, 23), 2),
     ]
 }
 
@@ -430,6 +456,13 @@ fn with_t(case: Case, t: usize) -> Case {
 fn at(k: usize, outputs: &[u16]) -> Vec<u16> {
     let mut list = vec![0; 24];
     list[k - 1..k - 1 + outputs.len()].copy_from_slice(outputs);
+    list
+}
+
+/// So many hours of the known unit at the minimum output, the last on PD(2) = 1.
+fn kept_on_line(hours: usize) -> Vec<u16> {
+    let mut list = vec![2; hours];
+    list[hours - 1] = 1;
     list
 }
 

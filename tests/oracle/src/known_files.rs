@@ -1,9 +1,11 @@
-//! Files of both forms with the answer of reading, worked out by hand (scope, "Case file" and "Refusal list"; requests
-//! F-2 and F-4). All are made from two: case 7 of the known days in the old form and in form 2, byte by byte.
+//! Files of the three forms with the answer of reading, worked out by hand (scope, "Case file" and "Refusal list";
+//! requests F-2, F-4 and F-5). All are made from three: case 7 of the known days in each form, byte by byte.
 
 use crate::case::Case;
 use crate::days::{known_unit, program_example};
 use crate::file::{assemble, assemble_with_gap};
+use crate::opening::Opening;
+use std::sync::OnceLock;
 
 /// A file with the record that it holds, or its refusal.
 #[derive(Clone, Debug)]
@@ -27,7 +29,7 @@ pub const OLD: [u8; 65] = [
 
 /// Case 7 in form 2: the pairs (20, 32), (52, 4), (56, 4), (60, 15), (75, 2), three hours of 5 bytes, and the form.
 #[rustfmt::skip]
-pub const NEW: [u8; 77] = [
+pub const FORM_2: [u8; 77] = [
     20, 0, 32, 0,  52, 0, 4, 0,  56, 0, 4, 0,  60, 0, 15, 0,  75, 0, 2, 0,
     4, 0,  2, 0,  1, 0,  1, 0,  1, 0,  1, 0,
     10, 0, 0, 0,  1, 0, 0, 0,  3, 0, 0, 0,  2, 0, 0, 0,
@@ -38,35 +40,123 @@ pub const NEW: [u8; 77] = [
     2, 0,
 ];
 
-/// How many files there are.
-pub const COUNT: u64 = 282;
+/// Case 7 in form 3: the pairs (20, 34), (54, 4), (58, 4), (62, 15), (77, 2), a unit with both stages after h, three
+/// hours of 5 bytes, and the form.
+#[rustfmt::skip]
+pub const FORM_3: [u8; 79] = [
+    20, 0, 34, 0,  54, 0, 4, 0,  58, 0, 4, 0,  62, 0, 15, 0,  77, 0, 2, 0,
+    4, 0,  2, 0,  1, 0,  1, 0,  1, 0,  1, 0,
+    10, 0, 0, 0,  1, 0, 0, 0,  3, 0, 0, 0,  2, 0, 0, 0,
+    3, 0,  2, 0,  0, 0,
+    1, 0,  2, 0,
+    2, 0,  1, 0,
+    5, 0, 0, 0, 0,  5, 0, 0, 0, 0,  5, 0, 0, 0, 0,
+    3, 0,
+];
 
-/// Places in the old file and in the new one: capacity, F, A, B, C; the price and the order of hour 2; the form number.
-const OLD_COSTS: [usize; 4] = [28, 32, 36, 40];
-const OLD_PRICE_2: usize = 59;
-const OLD_ORDER_2: usize = 61;
-const CAPACITY: usize = 20;
-const COSTS: [usize; 4] = [32, 36, 40, 44];
-const PRICE_2: usize = 65;
-const ORDER_2: usize = 69;
-const FORM: usize = 75;
+/// How many files there are.
+pub const COUNT: u64 = 478;
+
+/// A file of case 7, with the bytes of its unit and of an hour.
+#[derive(Clone, Copy)]
+struct Whole {
+    name: &'static str,
+    bytes: &'static [u8],
+    pairs: usize,
+    unit: usize,
+    hour: usize,
+}
+
+/// The three files.
+const OLD_FILE: Whole = Whole { name: "old", bytes: &OLD, pairs: 4, unit: 32, hour: 3 };
+const FILE_2: Whole = Whole { name: "form 2", bytes: &FORM_2, pairs: 5, unit: 32, hour: 5 };
+const FILE_3: Whole = Whole { name: "form 3", bytes: &FORM_3, pairs: 5, unit: 34, hour: 5 };
+const WHOLE: [Whole; 3] = [OLD_FILE, FILE_2, FILE_3];
+
+/// Those of five pairs.
+const FIVE: [Whole; 2] = [FILE_2, FILE_3];
+
+impl Whole {
+    /// Places: the unit's section, which begins with the capacity; a cost of F, A, B, C; p(0); the stages; the hours.
+    fn unit_at(&self) -> usize {
+        4 * self.pairs
+    }
+    fn cost_at(&self, cost: usize) -> usize {
+        self.unit_at() + 12 + 4 * cost
+    }
+    fn output_at(&self) -> usize {
+        self.unit_at() + 28
+    }
+    fn stages_at(&self) -> usize {
+        self.unit_at() + 32
+    }
+    fn hours_at(&self) -> usize {
+        self.unit_at() + self.unit + 8
+    }
+
+    /// Places: the price of an hour, the order of hour 2, and the form number.
+    fn price_at(&self, hour: usize) -> usize {
+        self.hours_at() + self.hour * (hour - 1)
+    }
+    fn order_2_at(&self) -> usize {
+        self.price_at(3) - 1
+    }
+    fn form_at(&self) -> usize {
+        self.bytes.len() - 2
+    }
+
+    /// The file with these bytes from a place on.
+    fn with(&self, at: usize, bytes: &[u8]) -> Vec<u8> {
+        with(self.bytes, at, bytes)
+    }
+
+    /// The sections.
+    fn sections(&self) -> Vec<Vec<u8>> {
+        let mut rest = &self.bytes[self.unit_at()..];
+        let mut sections = Vec::new();
+        for length in [self.unit, 4, 4, 3 * self.hour].iter().chain(&[2][..self.pairs - 4]) {
+            let (section, after) = rest.split_at(*length);
+            sections.push(section.to_vec());
+            rest = after;
+        }
+        sections
+    }
+
+    /// The file with this length of a section, cut or filled up with zeros, and with this form number, if it has one.
+    fn with_length(&self, section: usize, length: usize, form: u16) -> Vec<u8> {
+        let mut sections = self.sections();
+        if let Some(last) = sections.get_mut(4) {
+            *last = form.to_le_bytes().to_vec();
+        }
+        sections[section].resize(length, 0);
+        assemble(&sections)
+    }
+}
 
 /// Mills one above the limit of a price, and one below the lower one, as bytes.
 const ABOVE: [u8; 4] = [0x81, 0x96, 0x98, 0x00];
 const BELOW: [u8; 4] = [0x7f, 0x69, 0x67, 0xff];
 
-/// All files, by what is tested.
-pub fn known_files() -> Vec<KnownFile> {
+/// All files, by what is tested; they are made once.
+pub fn known_files() -> &'static [KnownFile] {
+    static FILES: OnceLock<Vec<KnownFile>> = OnceLock::new();
+    FILES.get_or_init(made)
+}
+
+/// The files.
+fn made() -> Vec<KnownFile> {
     [
         accepted(),
         short(),
         first_offsets(),
         chains(),
         lengths(),
-        old_lengths(),
+        units(),
+        hours_of_another_form(),
         forms(),
         limits(),
         prices(),
+        stages(),
         hour_counts(),
     ]
     .concat()
@@ -89,24 +179,11 @@ fn with(file: &[u8], at: usize, bytes: &[u8]) -> Vec<u8> {
     file
 }
 
-/// The file with a 16-bit number at a place increased.
-fn raised(file: &[u8], at: usize, step: u8) -> Vec<u8> {
-    with(file, at, &[file[at] + step])
-}
-
-/// The sections of form 2, and of the old form.
-fn new_sections() -> [Vec<u8>; 5] {
-    [&NEW[20..52], &NEW[52..56], &NEW[56..60], &NEW[60..75], &NEW[75..]].map(<[u8]>::to_vec)
-}
-fn old_sections() -> [Vec<u8>; 4] {
-    [&OLD[16..48], &OLD[48..52], &OLD[52..56], &OLD[56..]].map(<[u8]>::to_vec)
-}
-
-/// Both forms hold the same record. A price of form 2 has a sign, one of the old form has none and keeps its value.
+/// All forms hold the same record. A price of five pairs has a sign, one of the old form has none and keeps its value.
 fn accepted() -> Vec<KnownFile> {
-    let example = |name, file: &[u8]| KnownFile {
-        name: format!("{name}, as printed"),
-        bytes: file.to_vec(),
+    let example = |file: Whole| KnownFile {
+        name: format!("{}, as printed", file.name),
+        bytes: file.bytes.to_vec(),
         answer: Ok(program_example()),
     };
     let signed: [([u8; 4], i32); 12] = [
@@ -130,26 +207,27 @@ fn accepted() -> Vec<KnownFile> {
         ([0x40, 0x9c], 40_000),
         ([255, 255], 65_535),
     ];
-    let mut files = vec![example("old", &OLD), example("form 2", &NEW)];
-    for (bytes, price) in signed {
-        files.push(read(format!("form 2, price {price}"), with(&NEW, PRICE_2, &bytes), &[5, price, 5]));
+    let priced = |file: &Whole, bytes: &[u8], price: i32| {
+        read(format!("{}, price {price}", file.name), file.with(file.price_at(2), bytes), &[5, price, 5])
+    };
+    let mut files = WHOLE.map(example).to_vec();
+    for file in FIVE {
+        files.extend(signed.map(|(bytes, price)| priced(&file, &bytes, price)));
     }
-    for (bytes, price) in unsigned {
-        files.push(read(format!("old, price {price}"), with(&OLD, OLD_PRICE_2, &bytes), &[5, price, 5]));
-    }
+    files.extend(unsigned.map(|(bytes, price)| priced(&OLD_FILE, &bytes, price)));
     files
 }
 
 /// Fewer bytes than the pairs: 1. Of 16 to 19 bytes with first offset 20, five pairs have no room. Pairs alone, without
 /// a byte of sections, are a chain in order and sections of length 0: 2.
 fn short() -> Vec<KnownFile> {
-    let cut = |name: &str, file: &[u8], bytes: usize| {
-        refused(format!("{name}, the first {bytes} bytes"), file[..bytes].to_vec(), 1)
-    };
-    let mut files: Vec<KnownFile> = [0, 1, 2, 15, 16, 17, 18, 19, 20, 21, 52, 74, 75, 76]
-        .map(|bytes| cut("form 2", &NEW, bytes))
-        .to_vec();
-    files.extend([1, 15, 16, 17, 48, 56, 62, 64].map(|bytes| cut("old", &OLD, bytes)));
+    let mut files = Vec::new();
+    for Whole { name, bytes, .. } in WHOLE {
+        let last = bytes.len() - 1;
+        for count in [0, 1, 2, 15, 16, 17, 18, 19, 20, 21, 48, 56, last - 2, last - 1, last] {
+            files.push(refused(format!("{name}, the first {count} bytes"), bytes[..count].to_vec(), 1));
+        }
+    }
     let four = [16, 0, 0, 0].repeat(4);
     let five = [20, 0, 0, 0].repeat(5);
     for bytes in 16..20 {
@@ -162,26 +240,28 @@ fn short() -> Vec<KnownFile> {
     files
 }
 
-/// A first offset other than 16 and 20, 16 with the rest of form 2, and 20 with the rest of the old form: 1. So is a
-/// chain in order from another offset on: 18 and 24 after a gap, and six pairs.
+/// A first offset other than 16 and 20, 16 with the rest of five pairs, and 20 with the rest of the old form: 1. So is
+/// a chain in order from another offset on: 18 and 24 after a gap, and six pairs.
 fn first_offsets() -> Vec<KnownFile> {
     let offsets: [u16; 12] = [0, 4, 12, 15, 17, 18, 19, 21, 24, 272, 276, 65_535];
     let mut files = Vec::new();
-    for offset in offsets {
-        let bytes = offset.to_le_bytes();
-        files.push(refused(format!("form 2, first offset {offset}"), with(&NEW, 0, &bytes), 1));
-        files.push(refused(format!("old, first offset {offset}"), with(&OLD, 0, &bytes), 1));
+    for file in WHOLE {
+        let name = file.name;
+        let other = if file.pairs == 4 { 20 } else { 16 };
+        for offset in offsets.into_iter().chain([other]) {
+            let bytes = file.with(0, &offset.to_le_bytes());
+            files.push(refused(format!("{name}, first offset {offset}"), bytes, 1));
+        }
+        for gap in [1, 2, 4, 8] {
+            let bytes = assemble_with_gap(&file.sections(), &vec![0; gap]);
+            files.push(refused(format!("{name} and a gap of {gap}"), bytes, 1));
+        }
     }
-    files.push(refused("form 2, first offset 16", with(&NEW, 0, &[16]), 1));
-    files.push(refused("old, first offset 20", with(&OLD, 0, &[20]), 1));
-    for gap in [1, 2, 4, 8] {
-        let (new, old) = (new_sections(), old_sections());
-        let named = |pairs: usize| format!("{pairs} pairs and a gap of {gap}");
-        files.push(refused(named(5), assemble_with_gap(&new, &vec![0; gap]), 1));
-        files.push(refused(named(4), assemble_with_gap(&old, &vec![0; gap]), 1));
+    for file in FIVE {
+        let mut six = file.sections();
+        six.push(six[4].clone());
+        files.push(refused(format!("{}, six pairs", file.name), assemble(&six), 1));
     }
-    let [unit, start_up, shut_down, hours, form] = new_sections();
-    files.push(refused("six pairs", assemble(&[unit, start_up, shut_down, hours, form.clone(), form]), 1));
     files
 }
 
@@ -189,35 +269,24 @@ fn first_offsets() -> Vec<KnownFile> {
 /// alone makes the next offset wrong, or the end.
 fn chains() -> Vec<KnownFile> {
     let mut files = Vec::new();
-    for pair in 2..=5 {
-        files.push(refused(format!("form 2, offset {pair} one more"), raised(&NEW, 4 * (pair - 1), 1), 1));
+    for file in WHOLE {
+        let (name, bytes) = (file.name, file.bytes);
+        let raised = |at: usize| file.with(at, &[bytes[at] + 1]);
+        for pair in 2..=file.pairs {
+            files.push(refused(format!("{name}, offset {pair} one more"), raised(4 * pair - 4), 1));
+        }
+        for pair in 1..=file.pairs {
+            files.push(refused(format!("{name}, length {pair} one more"), raised(4 * pair - 2), 1));
+        }
+        files.push(refused(format!("{name} and a byte"), [bytes, &[0]].concat(), 1));
+        files.push(refused(format!("{name} and 65,536 bytes"), [bytes, &[0; 65_536]].concat(), 1));
     }
-    for pair in 2..=4 {
-        files.push(refused(format!("old, offset {pair} one more"), raised(&OLD, 4 * (pair - 1), 1), 1));
-    }
-    for pair in 1..=5 {
-        files.push(refused(format!("form 2, length {pair} one more"), raised(&NEW, 4 * pair - 2, 1), 1));
-    }
-    for pair in 1..=4 {
-        files.push(refused(format!("old, length {pair} one more"), raised(&OLD, 4 * pair - 2, 1), 1));
-    }
-    for (name, file) in [("form 2", &NEW[..]), ("old", &OLD[..])] {
-        files.push(refused(format!("{name} and a byte"), [file, &[0]].concat(), 1));
-        files.push(refused(format!("{name} and 65,536 bytes"), [file, &[0; 65_536]].concat(), 1));
-    }
-    files.push(refused(
-        "five pairs in order if sums wrap",
-        wrapped(&[(20, 65_535), (19, 4), (23, 4), (27, 15), (42, 2)]),
-        1,
-    ));
-    files.push(refused(
-        "four pairs in order if sums wrap",
-        wrapped(&[(16, 65_535), (15, 4), (19, 4), (23, 9)]),
-        1,
-    ));
-    let [unit, start_up, shut_down, hours, form] = new_sections();
-    files.push(refused("form 2 under four pairs", [assemble(&old_sections()), form.clone()].concat(), 1));
-    let long = assemble(&[unit, start_up, shut_down, hours, vec![2; 65_535]]);
+    let five_wrapped = [(20, 65_535), (19, 4), (23, 4), (27, 15), (42, 2)];
+    files.push(refused("five pairs in order if sums wrap", wrapped(&five_wrapped), 1));
+    let four_wrapped = [(16, 65_535), (15, 4), (19, 4), (23, 9)];
+    files.push(refused("four pairs in order if sums wrap", wrapped(&four_wrapped), 1));
+    files.push(refused("a form under four pairs", [&OLD[..], &[3, 0]].concat(), 1));
+    let long = FILE_3.with_length(4, 65_535, 3);
     files.push(refused("a chain in order past 65,535 bytes", long, 2));
     files
 }
@@ -230,170 +299,241 @@ fn wrapped(pairs: &[(u16, u16)]) -> Vec<u8> {
     file
 }
 
-/// Sections of five pairs whose length is not that of form 2: 2, whatever the form number is.
+/// Sections whose length no form has: 2, whatever the form number is.
 fn lengths() -> Vec<KnownFile> {
     let wrong: [(&str, usize, &[usize]); 5] = [
-        ("unit", 0, &[0, 30, 31, 33, 34, 64]),
+        ("unit", 0, &[0, 16, 30, 31, 33, 35, 36, 64]),
         ("start-up", 1, &[0, 1, 3, 17, 18]),
         ("shut-down", 2, &[0, 1, 3, 17, 18]),
-        ("hours", 3, &[0, 1, 3, 9, 14, 16, 18]),
+        ("hours", 3, &[0, 1, 4, 14, 16, 241]),
         ("form", 4, &[0, 1, 3, 4, 258]),
     ];
     let mut files = Vec::new();
-    for form in [2, 3] {
-        for (name, section, lengths) in wrong {
+    for (file, form) in [(OLD_FILE, 0), (FILE_2, 2), (FILE_3, 3), (FILE_3, 4)] {
+        for &(name, section, lengths) in &wrong[..file.pairs] {
             for &length in lengths {
-                let mut sections = new_sections();
-                sections[4][0] = form;
-                sections[section].resize(length, 0);
-                let name = format!("form number {form}, {name} of {length} bytes");
-                files.push(refused(name, assemble(&sections), 2));
+                let name = format!("{} as {form}, {name} of {length} bytes", file.name);
+                files.push(refused(name, file.with_length(section, length, form), 2));
             }
         }
     }
     files
 }
 
-/// Sections of four pairs whose length is not that of the old form: 2. Where hours of one form fit the other, their
-/// bytes are taken as that form has them. Three hours of form 2 are 15 bytes, and so are five of the old form, of which
-/// the second is a price of 0 with order 5: 8. Five old hours are three of form 2: 5, 0, 0, 5, 0 is a price of
-/// 5 + 5 * 2^24 with order 0, then 0, 5, 0, 0, 5 has order 5: 8, which comes before 13.
-fn old_lengths() -> Vec<KnownFile> {
-    let wrong: [(&str, usize, &[usize]); 4] = [
-        ("unit", 0, &[30, 34]),
-        ("start-up", 1, &[0, 3, 18]),
-        ("shut-down", 2, &[0, 3, 18]),
-        ("hours", 3, &[0, 1, 5, 10]),
-    ];
-    let mut files = Vec::new();
-    for (name, section, lengths) in wrong {
-        for &length in lengths {
-            let mut sections = old_sections();
-            sections[section].resize(length, 0);
-            files.push(refused(format!("old, {name} of {length} bytes"), assemble(&sections), 2));
-        }
+/// The unit has 34 bytes in form 3, 32 in form 2 and in the old form, and 34 in a form that is not known: the other
+/// length is 2, before 12.
+fn units() -> Vec<KnownFile> {
+    let mut files = vec![refused("old, unit of 34 bytes", OLD_FILE.with_length(0, 34, 0), 2)];
+    for form in [0, 1, 2, 3, 4, 255, 256, 258, 259, 512, 768, 65_535] {
+        let bytes = if form == 2 { 34 } else { 32 };
+        let file = FILE_3.with_length(0, bytes, form);
+        files.push(refused(format!("form number {form}, unit of {bytes} bytes"), file, 2));
     }
-    let [unit, start_up, shut_down, hours, form] = new_sections();
-    let four = assemble(&[unit.clone(), start_up.clone(), shut_down.clone(), hours]);
-    files.push(refused("three hours of form 2 under four pairs", four, 8));
-    let old_hours = [5, 0, 0].repeat(5);
-    let five = assemble(&[unit, start_up, shut_down, old_hours, form]);
-    files.push(refused("five old hours under five pairs", five, 8));
     files
 }
 
-/// A form number other than 2: 12, right after 2, so before 3 (capacity 401), 8 (order 3) and 13.
+/// Where hours of one form fit the other, their bytes are taken as that form has them. Three hours of five pairs are 15
+/// bytes, and so are five of the old form, of which the second is a price of 0 with order 5: 8. Five old hours are
+/// three of five pairs: 5, 0, 0, 5, 0 is a price of 5 + 5 * 2^24 with order 0, then 0, 5, 0, 0, 5 has order 5: 8, which
+/// comes before 13. Nine and five bytes of hours fit one of them alone.
+fn hours_of_another_form() -> Vec<KnownFile> {
+    let mut four = FILE_2.sections();
+    four.pop();
+    let mut files = vec![refused("three hours of form 2 under four pairs", assemble(&four), 8)];
+    files.push(refused("old, hours of 5 bytes", OLD_FILE.with_length(3, 5, 0), 2));
+    files.push(refused("old, hours of 10 bytes", OLD_FILE.with_length(3, 10, 0), 2));
+    for file in FIVE {
+        let mut five = file.sections();
+        five[3] = [5, 0, 0].repeat(5);
+        files.push(refused(format!("{}, five old hours", file.name), assemble(&five), 8));
+        five[3] = [5, 0, 0].repeat(3);
+        files.push(refused(format!("{}, three old hours", file.name), assemble(&five), 2));
+    }
+    files
+}
+
+/// A form number other than 2 and 3: 12, right after 2, so before 3 (capacity 401), 7 (both stages), 8 (order 3) and
+/// 13.
 fn forms() -> Vec<KnownFile> {
-    let numbers: [u16; 9] = [0, 1, 3, 4, 255, 256, 258, 512, 65_535];
-    let named =
-        |number: u16| refused(format!("form number {number}"), with(&NEW, FORM, &number.to_le_bytes()), 12);
+    let numbers: [u16; 10] = [0, 1, 4, 255, 256, 258, 259, 512, 768, 65_535];
+    let numbered = |number: u16| FILE_3.with(FILE_3.form_at(), &number.to_le_bytes());
+    let named = |number: u16| refused(format!("form number {number}"), numbered(number), 12);
     let mut files = numbers.map(named).to_vec();
-    let other = with(&NEW, FORM, &[3]);
-    files.push(refused("form number 3, capacity 401", with(&other, CAPACITY, &[0x91, 0x01]), 12));
-    files.push(refused("form number 3, order 3", with(&other, ORDER_2, &[3]), 12));
-    files.push(refused("form number 3, price 10,000,001", with(&other, PRICE_2, &ABOVE), 12));
+    let other = numbered(4);
+    let beyond: [(&str, usize, &[u8]); 4] = [
+        ("capacity 401", FILE_3.unit_at(), &[0x91, 0x01]),
+        ("both stages", FILE_3.stages_at(), &[1, 2]),
+        ("order 3", FILE_3.order_2_at(), &[3]),
+        ("price 10,000,001", FILE_3.price_at(2), &ABOVE),
+    ];
+    for (name, at, bytes) in beyond {
+        files.push(refused(format!("form number 4, {name}"), with(&other, at, bytes), 12));
+    }
     files
 }
 
 /// A cost of 2^31 or more is 5, as one above its limit is: F 1,000,001 and 100,000,001 are the first above theirs.
 fn limits() -> Vec<KnownFile> {
     let mut files = Vec::new();
-    for (cost, (at, old)) in ["F", "A", "B", "C"].iter().zip(COSTS.into_iter().zip(OLD_COSTS)) {
-        let above = if *cost == "F" { [0x41, 0x42, 0x0f, 0x00] } else { [0x01, 0xe1, 0xf5, 0x05] };
-        for bytes in [above, [0, 0, 0, 0x80], [255, 255, 255, 255]] {
-            files.push(refused(format!("form 2, {cost} {bytes:?}"), with(&NEW, at, &bytes), 5));
-            files.push(refused(format!("old, {cost} {bytes:?}"), with(&OLD, old, &bytes), 5));
+    for file in WHOLE {
+        let name = file.name;
+        for (i, cost) in ["F", "A", "B", "C"].into_iter().enumerate() {
+            let above = if cost == "F" { [0x41, 0x42, 0x0f, 0x00] } else { [0x01, 0xe1, 0xf5, 0x05] };
+            for bytes in [above, [0, 0, 0, 0x80], [255, 255, 255, 255]] {
+                files.push(refused(
+                    format!("{name}, {cost} {bytes:?}"),
+                    file.with(file.cost_at(i), &bytes),
+                    5,
+                ));
+            }
         }
+        files.push(refused(format!("{name}, order 3"), file.with(file.order_2_at(), &[3]), 8));
     }
-    files.push(refused("form 2, order 3", with(&NEW, ORDER_2, &[3]), 8));
-    files.push(refused("old, order 3", with(&OLD, OLD_ORDER_2, &[3]), 8));
     files
 }
 
-/// A price outside -10,000,000 to 10,000,000: 13, in any hour, right after 8; so 5 and 8 come before it.
+/// A price outside -10,000,000 to 10,000,000: 13, in any hour, right after 8; so 5, 7 and 8 come before it.
 fn prices() -> Vec<KnownFile> {
     let outside = [ABOVE, BELOW, [0xff, 0xff, 0xff, 0x7f], [0, 0, 0, 0x80], [0, 0, 0, 1], [0, 0, 0, 0xff]];
     let mut files = Vec::new();
-    for bytes in outside {
-        files.push(refused(format!("price {bytes:?}"), with(&NEW, PRICE_2, &bytes), 13));
+    for file in FIVE {
+        let name = file.name;
+        for bytes in outside {
+            files.push(refused(format!("{name}, price {bytes:?}"), file.with(file.price_at(2), &bytes), 13));
+        }
+        for hour in [1, 3] {
+            let bytes = file.with(file.price_at(hour), &ABOVE);
+            files.push(refused(format!("{name}, price 10,000,001 in hour {hour}"), bytes, 13));
+        }
+        let above = file.with(file.price_at(2), &ABOVE);
+        let before: [(&str, usize, &[u8], u32); 4] = [
+            ("capacity 401", file.unit_at(), &[0x91, 0x01], 3),
+            ("F 2^31", file.cost_at(0) + 3, &[0x80], 5),
+            ("p(0) 1", file.output_at(), &[1], 7),
+            ("order 3", file.order_2_at(), &[3], 8),
+        ];
+        for (what, at, bytes, number) in before {
+            files.push(refused(format!("{name}, price 10,000,001, {what}"), with(&above, at, bytes), number));
+        }
     }
-    for hour in [1, 3] {
-        let file = with(&NEW, PRICE_2 + 5 * hour - 10, &ABOVE);
-        files.push(refused(format!("price 10,000,001 in hour {hour}"), file, 13));
-    }
-    let above = with(&NEW, PRICE_2, &ABOVE);
-    files.push(refused("price 10,000,001, order 3", with(&above, ORDER_2, &[3]), 8));
-    files.push(refused("price 10,000,001, F 2^31", with(&above, COSTS[0] + 3, &[0x80]), 5));
-    files.push(refused("price 10,000,001, capacity 401", with(&above, CAPACITY, &[0x91, 0x01]), 3));
     files
 }
 
-/// Case 7 in the old form with the first bytes of a day whose hour k is at k mills.
-fn old_day(bytes: usize) -> Vec<u8> {
-    let entry = |k: u16| {
-        let [low, high] = k.to_le_bytes();
-        [low, high, 0]
+/// The stages of form 3, which stand after p(0) and h, the start-up one first. Case 7 has UD and DD 2, and PU(1) and
+/// PD(2) are 1: stage 1 of a start with p(0) 1 and h 1, and stage 2 of a stop with p(0) 1 and h 3 are read; any other
+/// stage is 7, and so are both, and those two the other way round. The bytes after a unit in the old form and in form 2
+/// are not taken for stages: with p(0) 1 the file is 7.
+fn stages() -> Vec<KnownFile> {
+    let unit = |p0: u8, h: u8, up: u8, down: u8| FILE_3.with(FILE_3.output_at(), &[p0, 0, h, 0, up, down]);
+    let opened = |p0: u8, h: u8, up: u8, down: u8| {
+        let opening = Opening { p0: p0.into(), h: h.into(), up_stage: up, down_stage: down };
+        let answer = Ok(opening.set(&program_example()));
+        KnownFile { name: format!("stages {up} and {down}"), bytes: unit(p0, h, up, down), answer }
     };
-    let mut sections = old_sections();
-    sections[3] = (1..).flat_map(entry).take(bytes).collect();
-    assemble(&sections)
+    let mut files = vec![opened(1, 1, 1, 0), opened(1, 3, 0, 2), opened(1, 255, 0, 2)];
+    let wrong = [
+        (1, 1, 0, 1),
+        (1, 3, 2, 0),
+        (1, 1, 1, 2),
+        (1, 3, 1, 2),
+        (2, 2, 2, 0),
+        (2, 2, 0, 1),
+        (1, 4, 0, 3),
+        (3, 2, 1, 0),
+        (3, 3, 0, 2),
+        (1, 2, 1, 0),
+        (1, 2, 0, 2),
+        (1, 3, 0, 0),
+        (1, 1, 255, 0),
+        (1, 255, 0, 255),
+        (3, 2, 255, 255),
+    ];
+    for (p0, h, up, down) in wrong {
+        let name = format!("p(0) {p0}, h {h}, stages {up} and {down}");
+        files.push(refused(name, unit(p0, h, up, down), 7));
+    }
+    for file in [OLD_FILE, FILE_2] {
+        for h in [1, 3] {
+            let bytes = file.with(file.output_at(), &[1, 0, h, 0]);
+            files.push(refused(format!("{}, p(0) 1, h {h}", file.name), bytes, 7));
+        }
+    }
+    files
 }
 
-/// Case 7 under five pairs with this form number and the first bytes of a day whose hour k is at -k mills.
-fn new_day(form: u8, bytes: usize) -> Vec<u8> {
-    let entry = |k: i32| {
-        let [low, second, third, high] = (-k).to_le_bytes();
-        [low, second, third, high, 0]
-    };
-    let mut sections = new_sections();
-    sections[3] = (1..).flat_map(entry).take(bytes).collect();
-    sections[4][0] = form;
-    assemble(&sections)
+impl Whole {
+    /// The file with the first bytes of a day whose hour k is at k mills, or at -k mills where prices have a sign; with
+    /// this form number, if it has one.
+    fn of_day(&self, bytes: usize, form: u16) -> Vec<u8> {
+        let entry = |k: i32| {
+            let price = if self.hour == 3 { k } else { -k };
+            price.to_le_bytes().into_iter().take(self.hour - 1).chain([0])
+        };
+        let mut sections = self.sections();
+        sections[3] = (1..).flat_map(entry).take(bytes).collect();
+        if let Some(last) = sections.get_mut(4) {
+            *last = form.to_le_bytes().to_vec();
+        }
+        assemble(&sections)
+    }
+
+    /// The file with an hours section of so many bytes: hours at 5 mills, the last of which may be cut.
+    fn of_hours(&self, bytes: usize) -> Vec<u8> {
+        let mut sections = self.sections();
+        sections[3] = [5, 0, 0, 0, 0][..self.hour].repeat(bytes.div_ceil(self.hour));
+        sections[3].truncate(bytes);
+        assemble(&sections)
+    }
 }
 
-/// Case 7 in the old form and under five pairs, with an hours section of so many bytes: hours at 5 mills, the last of
-/// which may be cut.
-pub fn of_length(bytes: usize) -> [Vec<u8>; 2] {
-    let day = |entry: &[u8]| {
-        let mut hours = entry.repeat(bytes.div_ceil(entry.len()));
-        hours.truncate(bytes);
-        hours
-    };
-    let (mut old, mut new) = (old_sections(), new_sections());
-    old[3] = day(&[5, 0, 0]);
-    new[3] = day(&[5, 0, 0, 0, 0]);
-    [assemble(&old), assemble(&new)]
+/// Case 7 in each form, with an hours section of so many bytes.
+pub fn of_length(bytes: usize) -> [Vec<u8>; 3] {
+    WHOLE.map(|file| file.of_hours(bytes))
 }
 
 /// Hours sections that may be counted wrong; each hour has a price of its own, so that one lost or taken twice shows.
-/// Of 1 to 48 whole hours they are read: 3 to 144 bytes in the old form, 5 to 240 in form 2. Any other length is 2: a
-/// byte short of one hour or past it; a byte or two short of 48 hours or past them; 49 hours; 257, 280 and 304 hours,
+/// Of 1 to 48 whole hours they are read: 3 to 144 bytes in the old form, 5 to 240 in the others. Any other length is 2:
+/// a byte short of one hour or past it; a byte or two short of 48 hours or past them; 49 hours; 257, 280 and 304 hours,
 /// which are 1, 24 and 48 in 8 bits.
 ///
 /// An old file ends at 56 + bytes, and 65,478 to 65,480 bytes make it 65,534 to 65,536 long. 65,535 bytes, the most
 /// that a pair can name, are 21,845 hours, and 65,534 are a byte short of them. All of these are 2. A file of form 2
-/// ends at 62 + bytes, and 65,472 to 65,474 make it as long. Its fifth offset is 60 + bytes: 65,535 after 65,475 bytes,
-/// which are 13,095 hours and so 2. After a byte more, and after 65,535 bytes, which are 13,107 hours, that offset does
-/// not fit in 16 bits: 1. Form number 3 changes nothing, since 12 comes after 1 and 2.
+/// ends at 62 + bytes, and 65,472 to 65,474 make it as long; its fifth offset is 60 + bytes, that is 65,535 after
+/// 65,475 bytes, which are 13,095 hours and so 2. A file of form 3 ends at 64 + bytes, and 65,470 to 65,472 make it as
+/// long; of these 65,470 are 13,094 hours; its fifth offset is 62 + bytes, that is 65,535 after 65,473 bytes. After a
+/// byte more, and after 65,535 bytes, which are 13,107 hours, that offset does not fit in 16 bits: 1. Form number 4
+/// changes nothing, since 12 comes after 1 and 2.
 fn hour_counts() -> Vec<KnownFile> {
-    let old_bytes = [2, 4, 142, 143, 145, 146, 147, 771, 840, 912, 65_478, 65_479, 65_480, 65_534, 65_535];
-    let new_bytes = [4, 6, 238, 239, 241, 242, 245, 1_285, 1_400, 1_520, 65_472, 65_473, 65_474, 65_475];
     let mut files = Vec::new();
-    for hours in [1, 2, 47, 48] {
-        let day: Vec<i32> = (1..=hours).collect();
-        let below_zero: Vec<i32> = day.iter().map(|price| -price).collect();
-        files.push(read(format!("old, {hours} hours"), old_day(3 * day.len()), &day));
-        files.push(read(format!("form 2, {hours} hours"), new_day(2, 5 * day.len()), &below_zero));
+    for file in WHOLE {
+        for hours in [1, 2, 47, 48] {
+            let sign = if file.pairs == 4 { 1 } else { -1 };
+            let day: Vec<i32> = (1..=hours).map(|k| sign * k).collect();
+            let form = if file.unit == 34 { 3 } else { 2 };
+            files.push(read(
+                format!("{}, {hours} hours", file.name),
+                file.of_day(file.hour * day.len(), form),
+                &day,
+            ));
+        }
     }
-    for bytes in old_bytes {
-        files.push(refused(format!("old, hours of {bytes} bytes"), old_day(bytes), 2));
-    }
-    for form in [2, 3] {
+    let long: [(Whole, u16, &[usize], &[usize]); 4] = [
+        (OLD_FILE, 0, &[65_478, 65_479, 65_480, 65_534, 65_535], &[]),
+        (FILE_2, 2, &[65_472, 65_473, 65_474, 65_475], &[65_476, 65_535]),
+        (FILE_3, 3, &[65_470, 65_471, 65_472, 65_473], &[65_474, 65_535]),
+        (FILE_3, 4, &[65_470, 65_471, 65_472, 65_473], &[65_474, 65_535]),
+    ];
+    for (file, form, refused_by_2, refused_by_1) in long {
+        let (hour, most) = (file.hour, 48 * file.hour);
+        let short = [hour - 1, hour + 1, most - 2, most - 1, most + 1, most + 2, most + hour];
+        let in_8_bits = [257 * hour, 280 * hour, 304 * hour];
         let named = |bytes: usize, number: u32| {
-            refused(format!("form number {form}, hours of {bytes} bytes"), new_day(form, bytes), number)
+            let name = format!("{} as {form}, hours of {bytes} bytes", file.name);
+            refused(name, file.of_day(bytes, form), number)
         };
-        files.extend(new_bytes.map(|bytes| named(bytes, 2)));
-        files.extend([65_476, 65_535].map(|bytes| named(bytes, 1)));
+        let counted = short.iter().chain(&in_8_bits).chain(refused_by_2);
+        files.extend(counted.map(|&bytes| named(bytes, 2)));
+        files.extend(refused_by_1.iter().map(|&bytes| named(bytes, 1)));
     }
     files
 }

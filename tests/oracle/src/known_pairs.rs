@@ -3,6 +3,7 @@
 
 use crate::case::Case;
 use crate::days::{known_unit, refused_cases};
+use crate::opening::Opening;
 use crate::pair::Choice;
 
 /// A pair with its answer.
@@ -15,20 +16,20 @@ pub struct KnownPair {
     pub choice: Choice,
 }
 
-/// The tie that trying every list of the known unit from 2 MW at prices 14, 9, 9 has found: no list earns more than 5,
-/// and these two alone earn 5. Margins 4, -1, -1. The first shuts down: 4 (1 + 2) - 2 = 10, then -1 (0 + 1) - 4 = -5,
-/// then 0. The second stays on-line: 4 (3 + 2) - 2 = 18, then -1 (2 + 3) - 2 = -7, then -1 (2 + 2) - 2 = -6.
-pub const TIED_PRICES: [i32; 3] = [14, 9, 9];
-pub const TIED_LISTS: [[u16; 3]; 2] = [[1, 0, 0], [3, 2, 2]];
-pub const TIED_PROFIT: i64 = 5;
+/// The tie that trying every list of the known unit from 2 MW at prices 13, 10, 8 has found: no list earns more than 3,
+/// and these two alone earn 3. Margins 3, 0, -2. The first shuts down: 3 (1 + 2) - 2 = 7, then 0 - 4 = -4, then 0. The
+/// second stays on-line and closes on PD(2): 3 (3 + 2) - 2 = 13, then 0 - 2 = -2, then -2 (1 + 2) - 2 = -8.
+pub const TIED_PRICES: [i32; 3] = [13, 10, 8];
+pub const TIED_LISTS: [[u16; 3]; 2] = [[1, 0, 0], [3, 2, 1]];
+pub const TIED_PROFIT: i64 = 3;
 
 /// How many pairs there are.
-pub const COUNT: u64 = 97;
+pub const COUNT: u64 = 109;
 
 /// All pairs, by the sentences of the request.
 pub fn known_pairs() -> Vec<KnownPair> {
     let tested = [one_passes(), higher_profit(), equal_profit(), identical(), neither(), lengths()].concat();
-    [tested, refusals(), prices_below_zero()].concat()
+    [tested, refusals(), prices_below_zero(), inside_a_sequence()].concat()
 }
 
 /// A list that passes beats one that doesn't, whatever that one would earn. One hour from 2 MW: 2 and 3 pass, since RU
@@ -52,8 +53,8 @@ fn one_passes() -> Vec<KnownPair> {
 /// Then the higher profit wins, be the list higher or lower. One hour at price 20 from 2 MW: 2 earns 38, and 3 earns
 /// 10 (3 + 2) - 2 = 48. At price 5 from 3 MW: 2 earns -5 (2 + 3) - 2 = -27, and 4 earns -5 (4 + 3) - 2 = -37. From 0 MW
 /// at price 19, case 3 of the known days: 0 earns 0, and 1 earns 9 (1 + 0) - 2 - 6 = 1; at price 17, 1 earns
-/// 7 (1 + 0) - 2 - 6 = -1. At prices 14, 9, 9 from 2 MW: 3, 2, 2 earns 5, and 2, 1, 0 earns 4 (2 + 2) - 2 = 14, then
-/// -1 (1 + 2) - 2 = -5, then -1 (0 + 1) - 4 = -5, that is 4.
+/// 7 (1 + 0) - 2 - 6 = -1. At prices 13, 10, 8 from 2 MW: 3, 2, 1 earns 3, and 2, 1, 0 earns 3 (2 + 2) - 2 = 10, then
+/// 0 - 2 = -2, then -2 (0 + 1) - 4 = -6, that is 2.
 fn higher_profit() -> Vec<KnownPair> {
     let (high, low, start) = (known_unit(2, &[20]), known_unit(3, &[5]), known_unit(0, &[19]));
     let (tied, lost) = (known_unit(2, &TIED_PRICES), known_unit(0, &[17]));
@@ -66,8 +67,8 @@ fn higher_profit() -> Vec<KnownPair> {
         first("the first earns one half-mill more", start, &[1], &[0], 1),
         first("the first earns nothing and the second loses", lost, &[0], &[1], 0),
         second("the second earns nothing and the first loses", lost, &[1], &[0], 0),
-        first("the first earns more and is the higher list", tied, &[3, 2, 2], &[2, 1, 0], 5),
-        second("the second earns more and is the higher list", tied, &[2, 1, 0], &[3, 2, 2], 5),
+        first("the first earns more and is the higher list", tied, &[3, 2, 1], &[2, 1, 0], 3),
+        second("the second earns more and is the higher list", tied, &[2, 1, 0], &[3, 2, 1], 3),
     ]
 }
 
@@ -169,6 +170,30 @@ fn prices_below_zero() -> Vec<KnownPair> {
         second("the second earns more at the highest price", spike, &[2], &[3], 49_999_948),
         first("equal profit below and above zero, the first is lower", even, &[2, 2], &[3, 2], -4),
         second("equal profit below and above zero, the second is lower", even, &[3, 2], &[2, 2], -4),
+    ]
+}
+
+/// Days inside a sequence (request F-5). At price 10 from 2 MW, 1 is PD(2) and passes: it earns -2, as 2 does, and is
+/// lower. At price 5 it earns -5 (1 + 2) - 2 = -17, and 2 earns -22. With a minimum up time of 8 its stop at hour 2 is
+/// h + 1 = 3 hours after the start, and 1 breaks 21. From PU(1) with stage 1, 2 alone passes, and earns -2 without B;
+/// from PD(2) with stage 2, 0 alone, and earns -4. A stage that is not in order is 7, before 9.
+fn inside_a_sequence() -> Vec<KnownPair> {
+    let (even, low) = (known_unit(2, &[10]), known_unit(2, &[5]));
+    let opened = |p0, h, up_stage, down_stage| Opening { p0, h, up_stage, down_stage }.set(&even);
+    let (rising, falling) = (opened(1, 1, 1, 0), opened(1, 3, 0, 2));
+    vec![
+        first("equal profit, the first closes on PD(2)", even, &[1], &[2], -2),
+        second("equal profit, the second closes on PD(2)", even, &[2], &[1], -2),
+        first("the first closes on PD(2) and loses less", low, &[1], &[2], -17),
+        second("the second closes on PD(2) and loses less", low, &[2], &[1], -17),
+        second("the first breaks 21 after T", Case { min_up: 8, ..low }, &[1], &[2], -22),
+        first("the second breaks 21 after T", Case { min_up: 8, ..low }, &[2], &[1], -22),
+        first("the first goes on with a start", rising, &[2], &[1], -2),
+        second("the second goes on with a start", rising, &[1], &[2], -2),
+        first("the first goes on with a stop", falling, &[0], &[1], -4),
+        unchosen("neither goes on with a stop", falling, &[1], &[2], 0),
+        unchosen("both stages", opened(1, 1, 1, 2), &[2], &[], 7),
+        unchosen("a shut-down stage with h too low", opened(1, 2, 0, 2), &[0], &[0], 7),
     ]
 }
 

@@ -15,11 +15,12 @@ pub fn known_prices() -> Vec<KnownDay> {
 
 /// Prices below zero. From 0 MW at price -5, margin -15, staying off-line earns 0. An order starts the unit all the
 /// same: -15 (1 + 0) - 2 - 6 = -23. From 2 MW over two hours at -5, the unit shuts down: -15 (1 + 2) - 2 = -47, then
-/// -15 (0 + 1) - 4 = -19, that is -66. Ordered on-line it stays at the minimum output: -15 (2 + 2) - 2 = -62 in each
-/// hour. From 4 MW it goes down to it: -15 (3 + 4) - 2 = -107, then -15 (2 + 3) - 2 = -77. At prices -1 and 30 from
+/// -15 (0 + 1) - 4 = -19, that is -66. Ordered on-line it closes on the way to a stop: -15 (2 + 2) - 2 = -62, then
+/// -15 (1 + 2) - 2 = -47, that is -109. From 4 MW it goes down to the minimum output, and RD leaves no time for a stop:
+/// -15 (3 + 4) - 2 = -107, then -15 (2 + 3) - 2 = -77. At prices -1 and 30 from
 /// 2 MW, margins -11 and 20, it stays on-line: 3, 4 earns -11 (3 + 2) - 2 = -57, then 20 (4 + 3) - 2 = 138, that is 81;
-/// 2, 3 earns -46 and 98, that is 52. At price 0 the energy of 2 MW is sold for nothing and costs F:
-/// -10 (2 + 2) - 2 = -42. At -1 it costs a mill more: -11 (2 + 2) - 2 = -46.
+/// 2, 3 earns -46 and 98, that is 52. At price 0 the energy is sold for nothing and costs F: ordered on-line, from 2 MW
+/// to PD(2), -10 (1 + 2) - 2 = -32. At -1 it costs a mill more: -11 (1 + 2) - 2 = -35.
 fn below_zero() -> Vec<KnownDay> {
     let low = [-5; 2];
     vec![
@@ -27,11 +28,11 @@ fn below_zero() -> Vec<KnownDay> {
         found("off-line below zero all day", known_unit(0, &[-5; 4]), &[0; 4], 0),
         found("ordered on-line below zero", with_orders(known_unit(0, &[-5]), &[ON_LINE]), &[1], -23),
         found("shut down below zero", known_unit(2, &low), &[1, 0], -66),
-        found("kept on-line below zero", with_orders(known_unit(2, &low), &[ON_LINE; 2]), &[2, 2], -124),
+        found("kept on-line below zero", with_orders(known_unit(2, &low), &[ON_LINE; 2]), &[2, 1], -109),
         found("brought down below zero", with_orders(known_unit(4, &low), &[FREE, ON_LINE]), &[3, 2], -184),
         found("through a price below zero", known_unit(2, &[-1, 30]), &[3, 4], 81),
-        found("price 0", with_orders(known_unit(2, &[0]), &[ON_LINE]), &[2], -42),
-        found("price -1", with_orders(known_unit(2, &[-1]), &[ON_LINE]), &[2], -46),
+        found("price 0", with_orders(known_unit(2, &[0]), &[ON_LINE]), &[1], -32),
+        found("price -1", with_orders(known_unit(2, &[-1]), &[ON_LINE]), &[1], -35),
     ]
 }
 

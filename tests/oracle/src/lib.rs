@@ -2,7 +2,7 @@
 //! from the papers alone. "The scope" in the comments is the paper "The day scheduler for one
 //! thermal unit"; "the source" is the Arroyo and Conejo paper, whose constraints carry numbers;
 //! request F-1 is the one for two suppliers' lists side by side, F-2 the one for prices below zero, F-3 the one for
-//! the outage and must-run calendar.
+//! the outage and must-run calendar, F-5 the one for days that open and close inside a sequence.
 
 // What the papers say.
 pub mod answers;
@@ -17,6 +17,8 @@ pub mod known_calendars;
 pub mod known_files;
 pub mod known_pairs;
 pub mod known_prices;
+pub mod known_stages;
+pub mod opening;
 pub mod pair;
 pub mod profit;
 pub mod refusals;
@@ -28,5 +30,6 @@ pub mod damage;
 pub mod lists;
 pub mod pairs;
 pub mod random;
+pub mod stages;
 pub mod units;
 pub mod wild;

@@ -31,10 +31,10 @@ pub fn wild_list(rng: &mut Rng, case: &Case) -> Vec<u16> {
 }
 
 /// A day in runs: off-line hours, the start-up trajectory, on-line hours within the ramps, the
-/// shut-down trajectory. Minimum times, orders and the end of the day are not looked at.
+/// shut-down trajectory; first the rest of a start or a stop in which it opens. Minimum times, orders and the end of
+/// the day are not looked at.
 pub fn walk(rng: &mut Rng, case: &Case) -> Vec<u16> {
-    let mut list = Vec::new();
-    let mut output = case.p0;
+    let (mut list, mut output) = rest_of_opening(case);
     while list.len() < case.t {
         if output == 0 {
             list.resize(list.len() + rng.place(0, 6), 0);
@@ -51,6 +51,15 @@ pub fn walk(rng: &mut Rng, case: &Case) -> Vec<u16> {
     }
     list.truncate(case.t);
     list
+}
+
+/// The outputs that a start or a stop goes on with where the day opens inside it, and the output after them.
+fn rest_of_opening(case: &Case) -> (Vec<u16>, u16) {
+    match (usize::from(case.up_stage), usize::from(case.down_stage)) {
+        (0, 0) => (Vec::new(), case.p0),
+        (0, stage) => ([&case.pd[stage..case.dd], &[0]].concat(), 0),
+        (stage, _) => (case.pu[stage..case.ud].to_vec(), case.minimum),
+    }
 }
 
 /// On-line hours within the ramps, which end the day or end at the minimum output; gives the last
@@ -84,6 +93,23 @@ pub fn disturb(rng: &mut Rng, case: &Case, list: &mut [u16]) {
             5 => rng.pick(&[case.minimum, case.capacity, case.minimum.saturating_sub(1), 65_535]),
             6 => rng.between16(0, case.capacity.saturating_add(2)),
             _ => rng.bits() as u16,
+        };
+    }
+}
+
+/// Changes one of the first two outputs or of the last two: to an output of a trajectory, by one, to 0 or to the
+/// minimum output.
+pub fn disturb_ends(rng: &mut Rng, case: &Case, list: &mut [u16]) {
+    let last = list.len().saturating_sub(1);
+    let k = rng.pick(&[0, 1.min(last), last.saturating_sub(1), last, last, last]);
+    let stages = [&case.pu[..case.ud], &case.pd[..case.dd], &case.pd[..case.dd]].concat();
+    if let Some(output) = list.get_mut(k) {
+        *output = match rng.below(8) {
+            0 => output.saturating_add(1),
+            1 => output.saturating_sub(1),
+            2 => 0,
+            3 => case.minimum,
+            _ => rng.pick(&stages),
         };
     }
 }

@@ -1,6 +1,6 @@
-//! The refusal list (scope, "Refusal list"), numbers 1 to 10, with 12 and 13 of request F-2. The order of the tests
-//! is 1, 2, 12, 3 to 8, 13, 9, 10. Number 11 is the answer of a search that found nothing, and stands in `answers`; 14
-//! and 15 of request F-3 stand in `calendar`.
+//! The refusal list (scope, "Refusal list"), numbers 1 to 10, with 12 and 13 of request F-2 and the stages of request
+//! F-5 in 7. The order of the tests is 1, 2, 12, 3 to 8, 13, 9, 10. Number 11 is the answer of a search that found
+//! nothing, and stands in `answers`; 14 and 15 of request F-3 stand in `calendar`.
 
 use crate::case::{Case, MOST_HOURS, MOST_STAGES, OFF_LINE};
 use std::ops::RangeInclusive;
@@ -11,10 +11,16 @@ pub type Test = Result<(), u32>;
 /// Working numbers that a search may ask for.
 pub const WORKING_NUMBERS: usize = 8192;
 
-/// Bytes of a pair at the head of a file, of the unit's section and of the form's.
+/// Most hours that the unit has been on-line or off-line before hour 1.
+pub const HOURS_IN_STATE: u16 = 10_000;
+
+/// Bytes of a pair at the head of a file, and of the form's section.
 pub const PAIR_BYTES: usize = 4;
-pub const UNIT_BYTES: usize = 32;
 pub const FORM_BYTES: usize = 2;
+
+/// Bytes of the unit's section: form 3 has the two stages, form 2 and the old form have not.
+pub const UNIT_BYTES: usize = 34;
+pub const OLD_UNIT_BYTES: usize = 32;
 
 /// Fewest bytes of a file: those of four pairs.
 pub const LEAST_BYTES: usize = 4 * PAIR_BYTES;
@@ -24,8 +30,9 @@ pub const LEAST_BYTES: usize = 4 * PAIR_BYTES;
 pub const OLD_HOUR_BYTES: usize = 3;
 pub const HOUR_BYTES: usize = 5;
 
-/// The number of the form that is written.
-pub const FORM: u16 = 2;
+/// The number of the form that is written, and of the one before it, which is read.
+pub const FORM: u16 = 3;
+pub const FORM_BEFORE: u16 = 2;
 
 /// Prices that are not refused, in mills per MWh.
 pub const PRICES: RangeInclusive<i32> = -10_000_000..=10_000_000;
@@ -52,20 +59,27 @@ pub fn pairs(pairs: &[(usize, usize)], file_bytes: usize) -> Test {
 
 /// Refusal 2 of a file of four pairs: its hours have 3 bytes.
 pub fn old_lengths([unit, start_up, shut_down, hours]: [usize; 4]) -> Test {
-    unit_lengths([unit, start_up, shut_down])?;
+    refuse_if(unit != OLD_UNIT_BYTES, 2)?;
+    trajectory_lengths([start_up, shut_down])?;
     refuse_if(!is_entries(hours, OLD_HOUR_BYTES, MOST_HOURS), 2)
 }
 
-/// Refusal 2 of a file of five pairs, whatever its form number is: its hours have 5 bytes, its form section 2.
-pub fn lengths([unit, start_up, shut_down, hours, form]: [usize; 5]) -> Test {
-    unit_lengths([unit, start_up, shut_down])?;
-    refuse_if(!is_entries(hours, HOUR_BYTES, MOST_HOURS), 2)?;
+/// Refusal 2 of a file of five pairs by its form section, without whose 2 bytes there is no form number.
+pub fn form_length(form: usize) -> Test {
     refuse_if(form != FORM_BYTES, 2)
 }
 
-/// Refusal 2 by what every form has: 32 bytes of unit, 1 to 8 entries of 2 bytes in each trajectory.
-fn unit_lengths([unit, start_up, shut_down]: [usize; 3]) -> Test {
-    refuse_if(unit != UNIT_BYTES, 2)?;
+/// Refusal 2 of a file of five pairs with this form number: its hours have 5 bytes, its unit 32 in form 2 and else 34.
+/// An unknown form is measured as the newest one.
+pub fn lengths(form: u16, [unit, start_up, shut_down, hours]: [usize; 4]) -> Test {
+    let unit_bytes = if form == FORM_BEFORE { OLD_UNIT_BYTES } else { UNIT_BYTES };
+    refuse_if(unit != unit_bytes, 2)?;
+    trajectory_lengths([start_up, shut_down])?;
+    refuse_if(!is_entries(hours, HOUR_BYTES, MOST_HOURS), 2)
+}
+
+/// Refusal 2 by what every form has: 1 to 8 entries of 2 bytes in each trajectory.
+fn trajectory_lengths([start_up, shut_down]: [usize; 2]) -> Test {
     refuse_if(!is_entries(start_up, 2, MOST_STAGES), 2)?;
     refuse_if(!is_entries(shut_down, 2, MOST_STAGES), 2)
 }
@@ -75,9 +89,9 @@ fn is_entries(bytes: usize, size: usize, most: usize) -> bool {
     bytes.is_multiple_of(size) && (1..=most).contains(&(bytes / size))
 }
 
-/// Refusal 12: a form number that is not 2. It is a file's alone.
+/// Refusal 12: a form number that is neither 2 nor 3. It is a file's alone.
 pub fn form(number: u16) -> Test {
-    refuse_if(number != FORM, 12)
+    refuse_if(number != FORM_BEFORE && number != FORM, 12)
 }
 
 /// Refusals 2 to 8 of a record, from the top, and 13 right after 8.
@@ -137,13 +151,36 @@ fn trajectories(case: &Case) -> Test {
     refuse_if(!(rising && start_up_ends && falling && shut_down_ends), 6)
 }
 
-/// Refusal 7: h outside 1 to 10,000; p(0) neither 0 nor from minimum to capacity; p(0) above 0
-/// with h below UD.
+/// Refusal 7: h outside 1 to 10,000; both stages set; what is asked of the stage that is set, or of a day with none.
 fn opening(case: &Case) -> Test {
-    refuse_if(!(1..=10_000).contains(&case.h), 7)?;
+    refuse_if(!(1..=HOURS_IN_STATE).contains(&case.h), 7)?;
+    match (usize::from(case.up_stage), usize::from(case.down_stage)) {
+        (0, 0) => opening_outside_sequences(case),
+        (stage, 0) => opening_start(case, stage),
+        (0, stage) => opening_stop(case, stage),
+        _ => Err(7),
+    }
+}
+
+/// 7 with no stage set: p(0) neither 0 nor from minimum to capacity; p(0) above 0 with h below UD.
+fn opening_outside_sequences(case: &Case) -> Test {
     let on_line = case.p0 > 0;
     refuse_if(on_line && !(case.minimum..=case.capacity).contains(&case.p0), 7)?;
     refuse_if(on_line && usize::from(case.h) < case.ud, 7)
+}
+
+/// 7 of a start-up stage: it is not below UD; p(0) is not PU(stage); h is not the stage.
+fn opening_start(case: &Case, stage: usize) -> Test {
+    refuse_if(stage >= case.ud, 7)?;
+    refuse_if(case.p0 != case.pu[stage - 1], 7)?;
+    refuse_if(usize::from(case.h) != stage, 7)
+}
+
+/// 7 of a shut-down stage: it is not from 2 to DD; p(0) is not PD(stage); h is below UD + stage - 1.
+fn opening_stop(case: &Case, stage: usize) -> Test {
+    refuse_if(stage < 2 || stage > case.dd, 7)?;
+    refuse_if(case.p0 != case.pd[stage - 1], 7)?;
+    refuse_if(usize::from(case.h) < case.ud + stage - 1, 7)
 }
 
 /// Refusal 8: an order byte above 2.

@@ -1,5 +1,6 @@
 //! The rules of a list (scope, "Rules of a list"): constraints (1) to (12) of the source, summed
-//! as printed there, and rules 21 to 23 of the scope.
+//! as printed there, and rules 21 to 23 of the scope; with the start that stands before the day and the stop that
+//! stands after it (request F-5).
 
 use crate::case::{Case, MOST_HOURS, MOST_STAGES, OFF_LINE, ON_LINE};
 
@@ -9,8 +10,11 @@ pub const RULES_AT_HOUR_0: [u32; 2] = [2, 4];
 /// Rules that hold at hours 1 to T, lowest number first.
 pub const RULES: [u32; 15] = [1, 2, 3, 4, 5, 6, 7, 8, 9, 10, 11, 12, 21, 22, 23];
 
-/// Hours kept before hour 0 and after the last one, where y and z are 0. The sums reach back to
-/// hour 0 - UD + 1 and ahead to hour T + UD + DD - 2.
+/// The rule that holds at the stop after T.
+const RULES_AFTER_DAY: [u32; 1] = [21];
+
+/// Hours kept before hour 0 and after the last one, where y and z are 0 but for one start before the day and one stop
+/// after it. The sums reach back to hour 0 - UD + 1 and ahead to hour T + UD + DD - 2.
 const MARGIN: usize = 2 * MOST_STAGES;
 
 /// Marks of hours from -MARGIN to 48 + MARGIN.
@@ -35,7 +39,8 @@ pub struct Day<'a> {
 }
 
 impl<'a> Day<'a> {
-    /// The day that stays at output 0; its case has passed the refusals.
+    /// The day that stays at output 0; its case has passed the refusals. A start whose stage p(0) has reached stands at
+    /// hour 1 - stage.
     pub fn new(case: &'a Case) -> Day<'a> {
         let mut day = Day {
             case,
@@ -47,25 +52,31 @@ impl<'a> Day<'a> {
         };
         day.p[0] = i64::from(case.p0);
         day.v[0] = i64::from(case.p0 > 0);
+        if case.up_stage > 0 {
+            day.y[MARGIN + 1 - usize::from(case.up_stage)] = 1;
+        }
         day.mark_starts_and_stops();
         day
     }
 
-    /// Takes over a list of T outputs: v(k) is 1 exactly if p(k) is above 0.
+    /// Takes over a list of T outputs: v(k) is 1 exactly if p(k) is above 0. The last one tells whether there is a stop
+    /// after T.
     pub fn set_list(&mut self, list: &[u16]) {
         for (i, &output) in list.iter().enumerate() {
             self.p[i + 1] = i64::from(output);
             self.v[i + 1] = i64::from(output > 0);
         }
         self.mark_starts_and_stops();
+        self.set_closing(self.closing());
     }
 
-    /// Takes over which hours are on-line: bit k - 1 of `on_line` for hour k.
+    /// Takes over which hours are on-line: bit k - 1 of `on_line` for hour k. There is no stop after T.
     pub fn set_commitment(&mut self, on_line: u64) {
         for k in 1..=self.case.t {
             self.v[k] = (on_line >> (k - 1) & 1) as i64;
         }
         self.mark_starts_and_stops();
+        self.set_closing(None);
     }
 
     /// Takes over the output of one hour that is on-line exactly if the output is above 0.
@@ -83,6 +94,30 @@ impl<'a> Day<'a> {
         }
     }
 
+    /// The stage that a stop after T has reached: the i of 2 or more with p(T) = PD(i), where hour T lies in no start
+    /// sequence.
+    pub fn closing(&self) -> Option<usize> {
+        let last = self.p(self.hours);
+        let stage = (2..=self.dd()).find(|&i| last == self.pd(i) && self.sum_y(self.hours) == 0);
+        stage.map(|i| i as usize)
+    }
+
+    /// The stages of a stop after T that go with the hours on-line, beside none.
+    pub fn closings(&self) -> impl Iterator<Item = Option<usize>> {
+        let may_close = self.v(self.hours) == 1 && self.sum_y(self.hours) == 0;
+        let last = if may_close { self.case.dd } else { 1 };
+        std::iter::once(None).chain((2..=last).map(Some))
+    }
+
+    /// Marks the stop after T that has reached this stage, at hour T + DD + 1 - i, or none.
+    pub fn set_closing(&mut self, closing: Option<usize>) {
+        let after = MARGIN + self.case.t + 1;
+        self.z[after..].fill(0);
+        if let Some(stage) = closing {
+            self.z[after + self.case.dd - stage] = 1;
+        }
+    }
+
     /// p(k), for k from 0 to T.
     fn p(&self, k: i64) -> i64 {
         self.p[k as usize]
@@ -93,12 +128,12 @@ impl<'a> Day<'a> {
         self.v[k as usize]
     }
 
-    /// y(k), 0 for k below 1 and above T.
+    /// y(k), 0 above T, and for k below 1 but in the hour of a start before the day.
     fn y(&self, k: i64) -> i64 {
         self.y[(k + MARGIN as i64) as usize]
     }
 
-    /// z(k), 0 for k below 1 and above T.
+    /// z(k), 0 for k below 1, and above T but in the hour of a stop after it.
     fn z(&self, k: i64) -> i64 {
         self.z[(k + MARGIN as i64) as usize]
     }
@@ -218,7 +253,7 @@ impl<'a> Day<'a> {
     /// Rule 21: a stop at k comes the minimum up time or more after the latest start before it,
     /// or, with no such start, h + k - 1 is that long.
     fn rule_21(&self, k: i64) -> bool {
-        let latest_start = (1..k).rev().find(|&s| self.y(s) == 1);
+        let latest_start = (1 - self.ud()..k).rev().find(|&s| self.y(s) == 1);
         self.z(k) == 0 || self.time_since(latest_start, k) >= i64::from(self.case.min_up)
     }
 
@@ -270,19 +305,45 @@ impl<'a> Day<'a> {
 
     /// The lowest number of a rule broken at hour k.
     pub fn broken_at(&self, k: i64) -> Option<u32> {
-        let rules: &[u32] = if k == 0 { &RULES_AT_HOUR_0 } else { &RULES };
+        let rules: &[u32] = match k {
+            0 => &RULES_AT_HOUR_0,
+            _ if k <= self.hours => &RULES,
+            _ => &RULES_AFTER_DAY,
+        };
         rules.iter().copied().find(|&rule| !self.holds(rule, k))
     }
 
-    /// The first breach: the earliest hour, hour 0 included, and there the lowest number.
+    /// The first breach: the earliest hour, hour 0 and that of a stop after T included, and there the lowest number.
     pub fn first_breach(&self) -> Option<Breach> {
-        (0..=self.hours).find_map(|k| self.broken_at(k).map(|rule| Breach { hour: k as u32, rule }))
+        self.first_breach_from(0)
     }
+
+    /// The first breach at hour `first` or later.
+    pub fn first_breach_from(&self, first: i64) -> Option<Breach> {
+        let last = self.hours + self.dd() - 1;
+        (first..=last).find_map(|k| self.broken_at(k).map(|rule| Breach { hour: k as u32, rule }))
+    }
+}
+
+/// The day of a list of T outputs.
+fn day<'a>(case: &'a Case, list: &[u16]) -> Day<'a> {
+    let mut day = Day::new(case);
+    day.set_list(list);
+    day
 }
 
 /// The first breach of a list of T outputs.
 pub fn first_breach(case: &Case, list: &[u16]) -> Option<Breach> {
-    let mut day = Day::new(case);
-    day.set_list(list);
-    day.first_breach()
+    day(case, list).first_breach()
+}
+
+/// The stage that a stop after T has reached in a list of T outputs, if there is one.
+pub fn closing(case: &Case, list: &[u16]) -> Option<usize> {
+    day(case, list).closing()
+}
+
+/// The start sequences that hour T of a list of T outputs lies in.
+pub fn starts_at_end(case: &Case, list: &[u16]) -> i64 {
+    let day = day(case, list);
+    day.sum_y(day.hours)
 }

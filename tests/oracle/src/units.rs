@@ -1,12 +1,13 @@
 //! Random cases within the limits: small units for trying every list, longer days for trying every
 //! commitment, long days of small units and full-size days. In three of four prices may lie below zero and above 65,535
-//! mills (request F-2).
+//! mills (request F-2), and one in four of the units that have stages for it opens inside a start or a stop (request
+//! F-5).
 
 use crate::case::{Case, FREE, MOST_HOURS, OFF_LINE, ON_LINE};
 use crate::file::OLD_PRICES;
 use crate::lists::walk;
 use crate::random::Rng;
-use crate::refusals::PRICES;
+use crate::refusals::{HOURS_IN_STATE, PRICES};
 
 /// Largest capacity of a small unit for T from 1 to 9, so that (capacity + 2)^T stays below 20,000; and of a smaller
 /// one for T from 1 to 7, below 2,500.
@@ -200,23 +201,60 @@ fn rising_outputs(rng: &mut Rng, minimum: u16, count: usize) -> Vec<u16> {
     outputs
 }
 
-/// p(0) off-line, at the minimum output, near it or anywhere; h near the times that matter.
+/// Once in four times inside a start or a stop, if the unit has stages for it, and else outside.
 fn set_opening(rng: &mut Rng, case: &mut Case) {
+    open_outside(rng, case);
+    if rng.once_in(4) {
+        open_inside(rng, case);
+    }
+}
+
+/// Opens the day inside a start or a stop, if the unit has stages for it.
+pub fn open_inside(rng: &mut Rng, case: &mut Case) {
+    let rises = case.ud > 1 && (case.dd == 1 || rng.once_in(2));
+    if rises {
+        let stage = rng.place(1, case.ud - 1);
+        (case.up_stage, case.down_stage) = (stage as u8, 0);
+        (case.p0, case.h) = (case.pu[stage - 1], stage as u16);
+    } else if case.dd > 1 {
+        let stage = rng.place(2, case.dd);
+        (case.up_stage, case.down_stage) = (0, stage as u8);
+        case.p0 = case.pd[stage - 1];
+        case.h = hours_in_state(rng, (case.ud + stage - 1) as u16);
+    }
+}
+
+/// Opens the day outside a start and a stop, off-line or on-line.
+fn open_outside(rng: &mut Rng, case: &mut Case) {
+    (case.up_stage, case.down_stage) = (0, 0);
+    if rng.once_in(3) {
+        (case.p0, case.h) = (0, hours_in_state(rng, 1));
+    } else {
+        open_on_line(rng, case);
+    }
+}
+
+/// Opens the day on-line outside a start and a stop: p(0) at the minimum output, near it, at capacity or anywhere.
+pub fn open_on_line(rng: &mut Rng, case: &mut Case) {
     let near = case.capacity.min(case.minimum + 2);
-    case.p0 = match rng.below(6) {
-        0 | 1 => 0,
-        2 => case.minimum,
-        3 => rng.between16(case.minimum, near),
-        4 => case.capacity,
+    (case.up_stage, case.down_stage) = (0, 0);
+    case.p0 = match rng.below(4) {
+        0 => case.minimum,
+        1 => rng.between16(case.minimum, near),
+        2 => case.capacity,
         _ => rng.between16(case.minimum, case.capacity),
     };
-    let least = if case.p0 > 0 { case.ud as u16 } else { 1 };
-    case.h = match rng.below(4) {
+    case.h = hours_in_state(rng, case.ud as u16);
+}
+
+/// Hours on-line or off-line, near the least that there may be and near the times that matter.
+fn hours_in_state(rng: &mut Rng, least: u16) -> u16 {
+    match rng.below(4) {
         0 => least,
         1 => rng.between16(least, least + 2),
-        2 => rng.between16(least, 12),
-        _ => rng.between16(least, 10_000),
-    };
+        2 => rng.between16(least, 16),
+        _ => rng.between16(least, HOURS_IN_STATE),
+    }
 }
 
 /// F, A, B, C and the prices.
@@ -246,8 +284,21 @@ fn set_money(rng: &mut Rng, case: &mut Case, money: Money) {
     }
 }
 
+/// Makes the case one that a file of the old form can hold.
+pub fn set_old(rng: &mut Rng, case: &mut Case) {
+    set_old_prices(case);
+    clear_stages(rng, case);
+}
+
+/// Opens the day outside a start and a stop, if it does not.
+pub fn clear_stages(rng: &mut Rng, case: &mut Case) {
+    if case.up_stage > 0 || case.down_stage > 0 {
+        open_outside(rng, case);
+    }
+}
+
 /// Brings every price to the nearest one that a file of the old form can hold.
-pub fn set_old_prices(case: &mut Case) {
+fn set_old_prices(case: &mut Case) {
     for price in &mut case.prices[..case.t] {
         *price = (*price).clamp(*OLD_PRICES.start(), *OLD_PRICES.end());
     }
@@ -331,7 +382,7 @@ fn price(rng: &mut Rng, f: i32, money: Money) -> i32 {
 }
 
 /// Orders: all free, a few at random, many at random, or those of a day that the unit can run.
-fn set_orders(rng: &mut Rng, case: &mut Case) {
+pub fn set_orders(rng: &mut Rng, case: &mut Case) {
     let share = match rng.below(6) {
         0..=2 => return,
         3 => 5,

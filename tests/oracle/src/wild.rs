@@ -3,16 +3,22 @@
 
 use crate::case::{Case, MOST_HOURS, MOST_STAGES};
 use crate::random::Rng;
-use crate::refusals::PRICES;
+use crate::refusals::{HOURS_IN_STATE, PRICES};
+use crate::stages::small_staged;
 use crate::units::{full_day, small_unit};
 
 /// A case within the limits that is then changed in some way.
 pub fn wild_record(rng: &mut Rng) -> Case {
-    let mut case = if rng.once_in(40) { full_day(rng) } else { small_unit(rng) };
-    match rng.below(8) {
+    let mut case = match rng.below(40) {
+        0 => full_day(rng),
+        1..=15 => small_staged(rng),
+        _ => small_unit(rng),
+    };
+    match rng.below(10) {
         0 => fill_past_counts(rng, &mut case),
         1 => change_count(rng, &mut case),
         2 => return any_record(rng),
+        3 | 4 => set_opening_near_limit(rng, &mut case),
         _ => {
             for _ in 0..rng.place(1, 2) {
                 set_near_limit(rng, &mut case);
@@ -43,6 +49,8 @@ fn any_record(rng: &mut Rng) -> Case {
         c: rng.bits() as i32,
         p0: rng.bits() as u16,
         h: rng.bits() as u16,
+        up_stage: rng.bits() as u8,
+        down_stage: rng.bits() as u8,
         ..Case::ZERO
     };
     (case.ud, case.dd, case.t) = (rng.place(1, 8), rng.place(1, 8), rng.place(1, 48));
@@ -83,7 +91,7 @@ pub fn change_count(rng: &mut Rng, case: &mut Case) {
 
 /// Sets one field to a limit of its own or to a number next to it. Counts must fit.
 pub fn set_near_limit(rng: &mut Rng, case: &mut Case) {
-    match rng.below(22) {
+    match rng.below(24) {
         0 => {
             case.capacity =
                 rng.pick(&[0, case.minimum, case.minimum.saturating_sub(1), 399, 400, 401, 65_535])
@@ -98,10 +106,11 @@ pub fn set_near_limit(rng: &mut Rng, case: &mut Case) {
         8 => case.b = near_limit32(rng, 100_000_000),
         9 => case.c = near_limit32(rng, 100_000_000),
         10 | 11 => set_stage_near_limit(rng, case),
-        12 => case.h = near_limits(rng, 1, 10_000),
-        13 => case.h = near_limits(rng, case.ud as u16, 10_000),
+        12 => case.h = near_limits(rng, 1, HOURS_IN_STATE),
+        13 => case.h = near_limits(rng, case.ud as u16, HOURS_IN_STATE),
         14 | 15 => case.p0 = near_limits(rng, case.minimum, case.capacity),
-        16..=19 => {
+        16 | 17 => set_opening_near_limit(rng, case),
+        18..=21 => {
             let any = rng.place(0, case.t - 1);
             let k = rng.pick(&[0, any, case.t - 1]);
             case.prices[k] = near_price_limit(rng);
@@ -110,6 +119,21 @@ pub fn set_near_limit(rng: &mut Rng, case: &mut Case) {
             let k = rng.place(0, case.t - 1);
             case.orders[k] = rng.pick(&[0, 1, 2, 3, 4, 128, 255]);
         }
+    }
+}
+
+/// Changes one thing about a stage that is set, or sets one. Counts must fit.
+fn set_opening_near_limit(rng: &mut Rng, case: &mut Case) {
+    let (ud, dd) = (case.ud as u8, case.dd as u8);
+    let stages = [0, 1, 2, case.up_stage, case.down_stage, ud - 1, ud, dd, dd + 1, 8, 9, 128, 255];
+    let (rising, falling) = (rng.place(0, case.ud - 1), rng.place(0, case.dd - 1));
+    match rng.below(8) {
+        0 | 1 => case.up_stage = rng.pick(&stages),
+        2 | 3 => case.down_stage = rng.pick(&stages),
+        4 => case.h = rng.pick(&[case.h.saturating_sub(1), case.h.saturating_add(1), case.ud as u16]),
+        5 => case.h = near_limits(rng, u16::from(ud) + u16::from(case.down_stage) - 1, HOURS_IN_STATE),
+        6 => case.p0 = rng.pick(&[case.pu[rising], case.pd[falling]]),
+        _ => case.p0 = rng.pick(&[0, case.p0.saturating_add(1), case.p0.saturating_sub(1), case.minimum]),
     }
 }
 

@@ -18,7 +18,7 @@ array-copy-out-output c = omega arith
 returns : tie.Need-returns
 returns c =
     let s = c .before .before .before in
-    ap (eqb (s .args .case .initial .0)) (stage-last (s .args .t2) (s .args .i) (s .pre .0))
+    ap (eqb (s .args .initial .0)) (stage-last (s .args .t2) (s .args .i) (s .pre .0))
 
 pub opens-at-spec : {M : Type 1} → statement M
 opens-at-spec = tie.close (tie.spec sub-output mul-output array-copy-out-output returns)

@@ -44,10 +44,10 @@ word-requires-8 c κs = search needs
 returns : tie.Need-returns
 unfolding assembled
 returns c =
-    let e = c .before .before in
-    let m = e .before .before .before .before .before in
+    let m = c .before .before .before .before .before in
     let f = m .before .before .before .before .before in
-    let s = f .before .before .before .before .before .before .before in
+    let b = f .before .before .before .before .before .before in
+    let s = b .before .before .before in
     λ i. record {
       capacity = record { 0 = f .before .word .ensures i };
       minimum = record { 0 = f .word2 .ensures i };
@@ -56,13 +56,13 @@ returns c =
       minup = record { 0 = m .before .before .word5 .ensures i };
       mindown = record { 0 = m .before .word6 .ensures i };
       variable = record { 0 = m .mills .ensures i };
-      fixed = record { 0 = e .before .before .before .before .mills2 .ensures i };
-      startcost = record { 0 = e .before .before .before .mills3 .ensures i };
-      stopcost = record { 0 = e .before .before .mills4 .ensures i };
-      initial = record { 0 = e .before .word7 .ensures i };
-      elapsed = record { 0 = e .word8 .ensures i };
-      upstage = c .before .byte .ensures i;
-      downstage = c .byte2 .ensures i;
+      fixed = record { 0 = c .before .before .before .before .mills2 .ensures i };
+      startcost = record { 0 = c .before .before .before .mills3 .ensures i };
+      stopcost = record { 0 = c .before .before .mills4 .ensures i };
+      initial = record { 0 = c .before .word7 .ensures i };
+      elapsed = record { 0 = c .word8 .ensures i };
+      upstage = b .before .byte .ensures i;
+      downstage = b .byte2 .ensures i;
       rise = s .args .rise .outputs;
       fall = s .args .fall .outputs;
       prices = s .args .day .prices;
@@ -76,6 +76,8 @@ pub read-unit-spec : {M : Type 1} → statement M
 read-unit-spec =
     tie.close
     (tie.spec
+    (λ c κs. search needs)
+    (λ c κs. search needs)
     word-requires
     word-requires-2
     word-requires-3
@@ -88,6 +90,4 @@ read-unit-spec =
     mills-requires-4
     word-requires-7
     word-requires-8
-    (λ c κs. search needs)
-    (λ c κs. search needs)
     returns)

@@ -1,4 +1,4 @@
-//! The library's C boundary: structs by value, slices as pointer and length. The names end in 2, the number of
+//! The library's C boundary: structs by value, slices as pointer and length. The names end in 3, the number of
 //! the record's layout.
 
 use oracle::c::{Choice, Plan, Reading, Verdict, Written};
@@ -6,19 +6,19 @@ use oracle::case::Case;
 
 extern "C" {
     /// Reads a case from the bytes of a file.
-    #[link_name = "giqapsun_read_2"]
+    #[link_name = "giqapsun_read_3"]
     pub fn giqapsun_read(file: *const u8, count: usize) -> Reading;
 
     /// Writes a case as the bytes of a file.
-    #[link_name = "giqapsun_write_2"]
+    #[link_name = "giqapsun_write_3"]
     pub fn giqapsun_write(case: Case, bytes: *mut u8, count: usize) -> Written;
 
     /// Checks a list of outputs.
-    #[link_name = "giqapsun_check_2"]
+    #[link_name = "giqapsun_check_3"]
     pub fn giqapsun_check(case: Case, list: *const u16, count: usize) -> Verdict;
 
     /// Finds the best list of outputs.
-    #[link_name = "giqapsun_best_2"]
+    #[link_name = "giqapsun_best_3"]
     pub fn giqapsun_best(
         case: Case,
         work: *mut i64,
@@ -28,7 +28,7 @@ extern "C" {
     ) -> Plan;
 
     /// Finds the best list of outputs of the day that a calendar fills.
-    #[link_name = "giqapsun_best_by_calendar_2"]
+    #[link_name = "giqapsun_best_by_calendar_3"]
     pub fn giqapsun_best_by_calendar(
         case: Case,
         on: *const u16,
@@ -44,7 +44,7 @@ extern "C" {
     ) -> Plan;
 
     /// Compares two lists of outputs.
-    #[link_name = "giqapsun_better_2"]
+    #[link_name = "giqapsun_better_3"]
     pub fn giqapsun_better(
         case: Case,
         first: *const u16,

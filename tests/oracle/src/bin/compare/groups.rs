@@ -13,19 +13,21 @@ use oracle::calendars::{drawn, Drawn, Size};
 use oracle::case::{Case, MOST_HOURS};
 use oracle::damage::damaged_file;
 use oracle::days::{self, Answer, KnownDay, Question};
-use oracle::dp::best_list;
+use oracle::dp::{best_list, KeptLists};
 use oracle::file;
 use oracle::known_calendars::{self, known_calendars};
 use oracle::known_files::{self, known_files};
 use oracle::known_pairs::{self, known_pairs};
 use oracle::known_prices::{self, known_prices};
-use oracle::lists::{any_list, wild_list};
+use oracle::known_stages::{self, known_stages};
+use oracle::lists::{any_list, disturb_ends, wild_list};
 use oracle::pair;
 use oracle::pairs::{case_of_pairs, Pairs};
 use oracle::random::Rng;
 use oracle::refusals::WORKING_NUMBERS;
+use oracle::stages::{full_staged, longer_staged, small_staged};
 use oracle::units::{
-    full_day, limit_day, long_day, longer_day, set_below_zero, set_old_prices, small_unit, smaller_unit,
+    full_day, limit_day, long_day, longer_day, set_below_zero, set_old, small_unit, smaller_unit,
 };
 use oracle::wild::{fill_past_counts, wild_record};
 
@@ -52,7 +54,7 @@ impl Group {
 }
 
 /// All groups in the order in which they run.
-pub const GROUPS: [Group; 20] = [
+pub const GROUPS: [Group; 24] = [
     group("known-days", 13, known_day, "the known days, all calls, every list checked"),
     group("known-prices", known_prices::COUNT, known_price, "known days below zero and at the limits"),
     group("source-day", 2, source_day, "the source's day, once and twice over"),
@@ -62,14 +64,14 @@ pub const GROUPS: [Group; 20] = [
     group("longer-days", 2_500, longer_days, "longer days, every commitment tried"),
     group("long-days", 2_000, long_days, "up to 48 hours, by the dynamic programme"),
     group("full-days", 300, full_days, "up to 400 MW, by the dynamic programme"),
-    group("known-files", known_files::COUNT, known_file, "the known files of both forms"),
-    group("hours-lengths", 65_536, hours_lengths, "an hours section of every length, in both forms"),
-    group("both-forms", 5_000, both_forms, "a case in the old form and in form 2"),
+    group("known-files", known_files::COUNT, known_file, "the known files of the three forms"),
+    group("hours-lengths", 65_536, hours_lengths, "an hours section of every length, in each form"),
+    group("forms", 5_000, forms, "a case in the old form, in form 2 and in form 3"),
     group(
         "damaged-files",
         47_000,
         damaged_files,
-        "files of both forms with a fault, and those still accepted",
+        "files of the three forms with a fault, and those still accepted",
     )
     .of_every(Family::File),
     group("lists", 20_000, lists, "ten lists of a case, checked"),
@@ -86,6 +88,17 @@ pub const GROUPS: [Group; 20] = [
     ),
     group("calendars", 60_000, calendars, "a calendar and a case, of small units and others; long lists")
         .of_every(Family::Calendar),
+    group(
+        "known-stages",
+        known_stages::COUNT,
+        known_stage,
+        "known days that open or close inside a sequence",
+    ),
+    group("staged-days", 24_000, staged_days, "days that open or close inside a sequence, every list tried")
+        .of_every(Family::Stage),
+    group("staged-full-days", 2_600, staged_full_days, "such days up to 400 MW, by the dynamic programme")
+        .of_every(Family::Stage),
+    group("staged-lists", 20_000, staged_lists, "ten lists of such a day, checked").of_every(Family::List),
 ];
 
 /// Most lists of a unit that are all put through the check.
@@ -100,7 +113,7 @@ const PAIRS_OF_A_CASE: usize = 8;
 /// A verdict in the words of the known days.
 fn known_answer(verdict: &Verdict) -> Answer {
     match (verdict.number, verdict.rule) {
-        (0, 0) => unreachable!("no known list passes"),
+        (0, 0) => Answer::Passes { profit: verdict.profit },
         (0, rule) => Answer::Breaks { hour: verdict.hour, rule },
         (number, _) => Answer::Refused(number),
     }
@@ -117,9 +130,24 @@ fn known_day(run: &mut Run, index: u64) {
     every_list_checked(run, case, 10_000);
 }
 
-/// A known day below zero or at the limits, in the same way; every list is tried on the small ones.
+/// A known day below zero or at the limits, in the same way; every list is checked on the small ones.
 fn known_price(run: &mut Run, index: u64) {
-    let day = &known_prices()[index as usize];
+    known_row(run, &known_prices()[index as usize]);
+}
+
+/// A known day that opens or closes inside a sequence, or is refused for its opening, in the same way.
+fn known_stage(run: &mut Run, index: u64) {
+    let day = &known_stages()[index as usize];
+    if day.answer == Answer::Refused(7) {
+        known_answer_of(run, day);
+        refused_row(run, &day.case);
+    } else {
+        known_row(run, day);
+    }
+}
+
+/// A known day within the limits.
+fn known_row(run: &mut Run, day: &KnownDay) {
     known_answer_of(run, day);
     let (case, plan) = (&day.case, best_list(&day.case));
     let mut rng = run.rng();
@@ -142,8 +170,17 @@ fn known_answer_of(run: &mut Run, day: &KnownDay) {
             run.independent(case, &known_answer(&answers::verdict(case, list)), answer);
             run.check(case, list);
         }
-        (Question::BestList, Answer::Breaks { .. }) => unreachable!("a search breaks no rule"),
+        (Question::BestList, _) => unreachable!("a search finds a list or is refused"),
     }
+}
+
+/// The calls that take a refused record, but for the search.
+fn refused_row(run: &mut Run, case: &Case) {
+    let list = vec![case.minimum; case.t];
+    run.check(case, &list);
+    run.better(case, Pair::apart(&list, &list));
+    let result = run.memory.write(case, 100);
+    run.note(result);
 }
 
 /// The source's day, and its price profile twice.
@@ -229,7 +266,7 @@ fn known_file(run: &mut Run, index: u64) {
     read_and_write(run, &row.bytes);
 }
 
-/// Files of both forms with an hours section of so many bytes.
+/// Files of each form with an hours section of so many bytes.
 fn hours_lengths(run: &mut Run, index: u64) {
     for bytes in known_files::of_length(index as usize) {
         run.tally.refusals[answers::reading(&bytes).number as usize] += 1;
@@ -237,11 +274,11 @@ fn hours_lengths(run: &mut Run, index: u64) {
     }
 }
 
-/// A case at old prices: both its files are read as one record, and it is written again as the second.
-fn both_forms(run: &mut Run, index: u64) {
+/// A case that every form can hold: its three files are read as one record, and it is written again as the last.
+fn forms(run: &mut Run, index: u64) {
     let mut rng = run.rng();
     let mut case = if index.is_multiple_of(4) { full_day(&mut rng) } else { small_unit(&mut rng) };
-    set_old_prices(&mut case);
+    set_old(&mut rng, &mut case);
     run.files(&case);
 }
 
@@ -252,7 +289,7 @@ fn damaged_files(run: &mut Run, _index: u64) {
     read_and_write(run, &file);
 }
 
-/// Reads a file; if it is accepted, its record is written, and read again in both forms.
+/// Reads a file; if it is accepted, its record is written, and read again in each form.
 fn read_and_write(run: &mut Run, bytes: &[u8]) {
     run.read(bytes);
     if let Ok(case) = file::read(bytes) {
@@ -314,7 +351,7 @@ fn wild_records(run: &mut Run, _index: u64) {
     let mut rng = run.rng();
     let case = wild_record(&mut rng);
     let t = if case.t <= 2 * MOST_HOURS { case.t } else { rng.place(0, 2 * MOST_HOURS) };
-    let bytes = rng.pick(&[0, 19, 66, 67, 76, 77, 185, 186, 325, 326, 326, 326]);
+    let bytes = rng.pick(&[0, 19, 68, 69, 78, 79, 187, 188, 327, 328, 328, 328]);
     let number = answers::writing(&case, bytes).number;
     let result = run.memory.write(&case, bytes);
     run.note_record(&case, Asked::Write { bytes }, number, result);
@@ -439,6 +476,44 @@ fn memory_of_a_day(rng: &mut Rng, drawn: &Drawn) -> (usize, usize) {
         2 => (0, 0),
         3 => (rng.place(8_193, 8_300), t + rng.place(1, 30)),
         _ => (WORKING_NUMBERS, t),
+    }
+}
+
+/// A day that opens or closes inside a sequence: mostly a small unit, every list tried, once in twenty times a longer
+/// day, every commitment tried.
+fn staged_days(run: &mut Run, index: u64) {
+    let mut rng = run.rng();
+    let (case, tried) = if index.is_multiple_of(20) {
+        let case = longer_staged(&mut rng);
+        (case, by_commitment(&case))
+    } else {
+        let case = small_staged(&mut rng);
+        (case, every_list(&case))
+    };
+    run.independent(&case, &best_list(&case), &tried);
+    run.whole_case(&case, tried, &mut rng);
+}
+
+/// A full-size day that opens or closes inside a sequence, by the dynamic programme.
+fn staged_full_days(run: &mut Run, _index: u64) {
+    let mut rng = run.rng();
+    let case = full_staged(&mut rng);
+    run.whole_case(&case, best_list(&case), &mut rng);
+}
+
+/// Lists of a day that opens or closes inside a sequence: some that keep the rules, near misses at the opening and at
+/// the close, and any.
+fn staged_lists(run: &mut Run, _index: u64) {
+    let mut rng = run.rng();
+    let case = if rng.once_in(4) { longer_staged(&mut rng) } else { small_staged(&mut rng) };
+    let kept = KeptLists::new(&case);
+    for _ in 0..LISTS_OF_A_CASE {
+        let drawn = kept.draw(&mut rng, &[]);
+        let mut list = drawn.unwrap_or_else(|| any_list(&mut rng, &case));
+        if !rng.once_in(3) {
+            disturb_ends(&mut rng, &case, &mut list);
+        }
+        run.check(&case, &list);
     }
 }
 

@@ -3,7 +3,7 @@
 use crate::board::{Board, Tally};
 use crate::calls::{Call, Difference, Input, Memory, Name, Pair, Windows};
 use crate::kinds::records::Asked;
-use crate::kinds::{calendars, days, files, pairs, records, Family, FAMILIES};
+use crate::kinds::{calendars, days, files, lists, pairs, records, stages, Family, FAMILIES};
 use crate::report::{show, Source};
 use oracle::answers::{self, Schedule, Verdict};
 use oracle::best::Plan;
@@ -93,6 +93,9 @@ impl Run {
         let result = self.memory.check(case, list);
         if let Ok(verdict) = &result {
             self.count(verdict);
+            if verdict.number == 0 {
+                self.tally.kinds.list(&lists::Met::new(case, list, verdict));
+            }
         }
         self.note(result.map(|_| ()));
     }
@@ -123,6 +126,7 @@ impl Run {
         let result = self.memory.best(case, WORKING_NUMBERS, case.t, expected);
         if result.is_ok() {
             self.tally.kinds.day(&days::Met::new(case, expected));
+            self.tally.kinds.stage(&stages::Met::new(case, expected));
         }
         self.note(result);
     }
@@ -168,16 +172,16 @@ impl Run {
         self.note(result);
     }
 
-    /// Compares writing in just enough memory, reading the written file, and reading the file of the old form, if there
-    /// is one: all three are one record.
+    /// Compares writing in just enough memory, reading the written file, and reading the files of form 2 and of the old
+    /// form, if there are such: all are one record.
     pub fn files(&mut self, case: &Case) {
         let written = answers::writing(case, usize::MAX);
         let result = self.memory.write(case, written.bytes.len());
         self.note(result);
         self.read(&written.bytes);
-        if let Some(old) = file::old_file(case) {
-            self.independent(case, &file::read(&old), &file::read(&written.bytes));
-            self.read(&old);
+        for before in [file::file_before(case), file::old_file(case)].into_iter().flatten() {
+            self.independent(case, &file::read(&before), &file::read(&written.bytes));
+            self.read(&before);
         }
     }
 

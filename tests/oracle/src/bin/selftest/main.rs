@@ -3,6 +3,7 @@
 mod calendars;
 mod files;
 mod pairs;
+mod stages;
 
 use oracle::answers;
 use oracle::best::{by_commitment, every_list, Plan};
@@ -63,6 +64,9 @@ fn expect_known_day(day: &KnownDay) -> String {
         Answer::Found { list, profit } => {
             format!("{:?}", answers::Schedule { number, profit, list })
         }
+        Answer::Passes { profit } => {
+            format!("{:?}", answers::Verdict { number, hour: 0, rule: 0, profit })
+        }
         Answer::Breaks { hour, rule } => {
             format!("{:?}", answers::Verdict { number, hour, rule, profit: 0 })
         }
@@ -84,10 +88,14 @@ fn known_days(tally: &mut Tally) {
     }
 }
 
-/// The known days at prices below zero and above 65,535 mills, those of few hours by trying every list too.
+/// The known days at prices below zero and above 65,535 mills.
 fn known_prices(tally: &mut Tally) {
-    let days = known_prices::known_prices();
-    tally.same("count", days.len() as u64, known_prices::COUNT);
+    known_rows(tally, known_prices::known_prices(), known_prices::COUNT);
+}
+
+/// So many known days, those of few hours by trying every list too.
+fn known_rows(tally: &mut Tally, days: Vec<KnownDay>, count: u64) {
+    tally.same("count", days.len() as u64, count);
     for day in days {
         if day.case.t <= 4 {
             tally.same(day.name, answer_known_day(&day, every_list), expect_known_day(&day));
@@ -222,7 +230,7 @@ fn main() -> ExitCode {
     group("known prices", &mut total, plain(known_prices));
     group("program's example", &mut total, plain(files::program_example));
     group("source's day", &mut total, plain(source_day));
-    group("both forms", &mut total, plain(files::both_forms));
+    group("each form", &mut total, plain(files::each_form));
     group("refusal examples", &mut total, plain(files::refusal_examples));
     group("known files", &mut total, files::known);
     group("round trips", &mut total, files::round_trips);
@@ -238,6 +246,14 @@ fn main() -> ExitCode {
     group("random pairs", &mut total, pairs::random);
     group("known calendars", &mut total, plain(calendars::known));
     group("random calendars", &mut total, calendars::random);
+    group("known stages", &mut total, plain(stages::known));
+    group("what a list leaves", &mut total, plain(stages::left_by_lists));
+    group("dp against every list, inside a sequence", &mut total, stages::small);
+    group("dp against by commitment, inside a sequence", &mut total, stages::longer);
+    group("dp's lists on full-size days inside a sequence", &mut total, stages::full);
+    group("lists kept without a stop after T", &mut total, plain(stages::kept_before));
+    group("two days back to back", &mut total, stages::back_to_back);
+    group("the best list, cut in two", &mut total, stages::cut_in_two);
     println!("{} passed, {} failed", total.passed, total.failed);
     ExitCode::from(u8::from(total.failed > 0))
 }

@@ -1,5 +1,5 @@
-//! The kinds of files of both forms (request F-2): which test refuses a file, and what a file holds that is read; and
-//! of hours sections to count (request F-4).
+//! The kinds of files of the three forms (requests F-2 and F-5): which test refuses a file, and what a file holds that
+//! is read; and of hours sections to count (request F-4).
 
 use super::{kind, Kind};
 use oracle::case::Case;
@@ -14,6 +14,8 @@ pub struct Met {
     pairs: Vec<(usize, usize)>,
     /// What it holds if neither 1 nor 2 refuses it.
     held: Option<(Form, Case)>,
+    /// The form number of five pairs, if its section has 2 bytes.
+    form: Option<u16>,
 }
 
 /// Places of the sections.
@@ -24,9 +26,12 @@ const HOURS: usize = 3;
 const FORM: usize = 4;
 
 /// All kinds.
-pub const KINDS: [Kind<Met>; 93] = [
+pub const KINDS: [Kind<Met>; 119] = [
     kind("old form read", |met| met.is_read(4)),
-    kind("form 2 read", |met| met.is_read(5)),
+    kind("form 2 read", |met| met.is_read_as(2)),
+    kind("form 3 read", |met| met.is_read_as(3)),
+    kind("form 3, start-up stage read", |met| met.is_read_as(3) && met.stages().0 > 0),
+    kind("form 3, shut-down stage read", |met| met.is_read_as(3) && met.stages().1 > 0),
     kind("old price above 32,767", |met| met.is_read(4) && met.some_price(|price| price > 32_767)),
     kind("price below zero", |met| met.is_read(5) && met.some_price(|price| price < 0)),
     kind("above 65,535", |met| met.is_read(5) && met.some_price(|price| price > 65_535)),
@@ -58,6 +63,12 @@ pub const KINDS: [Kind<Met>; 93] = [
     kind("old shut-down", |met| met.wrong_alone(4, SHUT_DOWN)),
     kind("old hours", |met| met.wrong_alone(4, HOURS)),
     kind("unit", |met| met.wrong_alone(5, UNIT)),
+    kind("old unit of 34 bytes", |met| met.wrong_alone(4, UNIT) && met.length(UNIT) == 34),
+    kind("form 2, unit of 34 bytes", |met| met.unit_of(2, 34)),
+    kind("form 2, unit of 33 bytes", |met| met.unit_of(2, 33)),
+    kind("form 3, unit of 32 bytes", |met| met.unit_of(3, 32)),
+    kind("form 3, unit of 33 bytes", |met| met.unit_of(3, 33)),
+    kind("form 3, unit of 35 bytes", |met| met.unit_of(3, 35)),
     kind("start-up", |met| met.wrong_alone(5, START_UP)),
     kind("shut-down", |met| met.wrong_alone(5, SHUT_DOWN)),
     kind("hours", |met| met.wrong_alone(5, HOURS)),
@@ -71,17 +82,22 @@ pub const KINDS: [Kind<Met>; 93] = [
     kind("form section of 3 bytes", |met| met.form_section_of(3)),
     kind("form section of 4 bytes", |met| met.form_section_of(4)),
     kind("unit before 12", |met| met.before_12(UNIT)),
+    kind("unit of 32 bytes before 12", |met| met.before_12(UNIT) && met.length(UNIT) == 32),
     kind("start-up before 12", |met| met.before_12(START_UP)),
     kind("shut-down before 12", |met| met.before_12(SHUT_DOWN)),
     kind("hours before 12", |met| met.before_12(HOURS)),
     kind("12: form number 0", |met| met.form_number(0)),
     kind("number 1", |met| met.form_number(1)),
-    kind("number 3", |met| met.form_number(3)),
+    kind("number 4", |met| met.form_number(4)),
     kind("number 255", |met| met.form_number(255)),
     kind("number 256", |met| met.form_number(256)),
+    kind("number 258", |met| met.form_number(258)),
+    kind("number 259", |met| met.form_number(259)),
     kind("number 512", |met| met.form_number(512)),
+    kind("number 768", |met| met.form_number(768)),
     kind("number 65,535", |met| met.form_number(65_535)),
     kind("12 before 3 to 7", |met| met.refused(12) && matches!(met.limit(), Some(3..=7))),
+    kind("12 before 7 by a stage", |met| met.refused(12) && met.limit() == Some(7) && met.stages() != (0, 0)),
     kind("12 before 8", |met| met.refused(12) && met.limit() == Some(8)),
     kind("12 before 13", |met| met.refused(12) && met.limit() == Some(13)),
     kind("old form, 3", |met| met.refused_by_limit(4, 3)),
@@ -90,30 +106,40 @@ pub const KINDS: [Kind<Met>; 93] = [
     kind("old form, 6", |met| met.refused_by_limit(4, 6)),
     kind("old form, 7", |met| met.refused_by_limit(4, 7)),
     kind("old form, 8", |met| met.refused_by_limit(4, 8)),
-    kind("form 2, 3", |met| met.refused_by_limit(5, 3)),
-    kind("form 2, 4", |met| met.refused_by_limit(5, 4)),
-    kind("form 2, 5", |met| met.refused_by_limit(5, 5)),
-    kind("form 2, 6", |met| met.refused_by_limit(5, 6)),
-    kind("form 2, 7", |met| met.refused_by_limit(5, 7)),
-    kind("form 2, 8", |met| met.refused_by_limit(5, 8)),
+    kind("form 2, 3", |met| met.refused_in(2, 3)),
+    kind("form 2, 4", |met| met.refused_in(2, 4)),
+    kind("form 2, 5", |met| met.refused_in(2, 5)),
+    kind("form 2, 6", |met| met.refused_in(2, 6)),
+    kind("form 2, 7", |met| met.refused_in(2, 7)),
+    kind("form 2, 8", |met| met.refused_in(2, 8)),
+    kind("form 3, 3", |met| met.refused_in(3, 3)),
+    kind("form 3, 4", |met| met.refused_in(3, 4)),
+    kind("form 3, 5", |met| met.refused_in(3, 5)),
+    kind("form 3, 6", |met| met.refused_in(3, 6)),
+    kind("form 3, 7 without a stage", |met| met.refused_in(3, 7) && met.stages() == (0, 0)),
+    kind("form 3, 7 by a start-up stage", |met| met.refused_in(3, 7) && met.is_set(true, false)),
+    kind("form 3, 7 by a shut-down stage", |met| met.refused_in(3, 7) && met.is_set(false, true)),
+    kind("form 3, 7 by both stages", |met| met.refused_in(3, 7) && met.is_set(true, true)),
+    kind("form 3, 8", |met| met.refused_in(3, 8)),
     kind("old form, a cost of 2^31 or more", |met| met.refused_by_limit(4, 5) && met.some_cost_below_zero()),
-    kind("form 2, a cost of 2^31 or more", |met| met.refused_by_limit(5, 5) && met.some_cost_below_zero()),
+    kind("form 2, a cost of 2^31 or more", |met| met.refused_in(2, 5) && met.some_cost_below_zero()),
+    kind("form 3, a cost of 2^31 or more", |met| met.refused_in(3, 5) && met.some_cost_below_zero()),
     kind("13", |met| met.refused_by_limit(5, 13)),
     kind("one above the limit", |met| met.refused(13) && met.outside_alone(PRICES.end() + 1)),
     kind("one below the limit", |met| met.refused(13) && met.outside_alone(PRICES.start() - 1)),
     kind("13 by hour T", |met| met.refused(13) && met.outside().eq([met.hours()])),
     kind("3 to 7 before 13", |met| matches!(met.answer, Err(3..=7)) && met.outside().next().is_some()),
     kind("8 before 13", |met| met.refused(8) && met.outside().next().is_some()),
-    kind("old prices in form 2", |met| {
-        met.is_read(5) && !met.some_price(|price| !OLD_PRICES.contains(&price))
-    }),
+    kind("old prices in form 2", |met| met.is_read_as(2) && met.has_old_prices()),
+    kind("old prices in form 3", |met| met.is_read_as(3) && met.has_old_prices()),
     kind("48 hours of the old form", |met| met.is_read(4) && met.hours() == 48),
     kind("old hours section of 143 bytes", |met| met.hours_section_of(4, 143)),
     kind("old hours section of 145 bytes", |met| met.hours_section_of(4, 145)),
     kind("old hours section of 147 bytes", |met| met.hours_section_of(4, 147)),
     kind("257 to 304 old hours", |met| met.has_256_hours_more(4)),
     kind("old hours section of 65,535 bytes", |met| met.hours_section_of(4, 65_535)),
-    kind("48 hours of form 2", |met| met.is_read(5) && met.hours() == 48),
+    kind("48 hours of form 2", |met| met.is_read_as(2) && met.hours() == 48),
+    kind("48 hours of form 3", |met| met.is_read_as(3) && met.hours() == 48),
     kind("hours section of 239 bytes", |met| met.hours_section_of(5, 239)),
     kind("hours section of 241 bytes", |met| met.hours_section_of(5, 241)),
     kind("hours section of 245 bytes", |met| met.hours_section_of(5, 245)),
@@ -131,8 +157,10 @@ impl Met {
             _ => 0,
         };
         let number = |at: usize| usize::from(bytes[at]) + 256 * usize::from(bytes[at + 1]);
-        let pairs = (0..count).map(|i| (number(4 * i), number(4 * i + 2))).collect();
-        Met { bytes: bytes.to_vec(), answer: file::read(bytes), pairs, held: file::held(bytes).ok() }
+        let pairs: Vec<_> = (0..count).map(|i| (number(4 * i), number(4 * i + 2))).collect();
+        let has_form = pairs.get(FORM).is_some_and(|&(_, length)| length == 2);
+        let form = has_form.then(|| number(bytes.len() - 2) as u16);
+        Met { bytes: bytes.to_vec(), answer: file::read(bytes), pairs, held: file::held(bytes).ok(), form }
     }
 
     /// Whether it is refused with this number.
@@ -143,6 +171,27 @@ impl Met {
     /// Whether it is read, and has so many pairs.
     fn is_read(&self, pairs: usize) -> bool {
         self.answer.is_ok() && self.pairs.len() == pairs
+    }
+
+    /// Whether it is read as a file of this form.
+    fn is_read_as(&self, form: u16) -> bool {
+        self.answer.is_ok() && self.form == Some(form)
+    }
+
+    /// The stages that it holds.
+    fn stages(&self) -> (u8, u8) {
+        self.held.map_or((0, 0), |(_, case)| (case.up_stage, case.down_stage))
+    }
+
+    /// Whether it holds a start-up stage, and a shut-down stage.
+    fn is_set(&self, up: bool, down: bool) -> bool {
+        let stages = self.stages();
+        (stages.0 > 0, stages.1 > 0) == (up, down)
+    }
+
+    /// Whether the old form can hold all its prices.
+    fn has_old_prices(&self) -> bool {
+        !self.some_price(|price| !OLD_PRICES.contains(&price))
     }
 
     /// Whether a price of hours 1 to T is such.
@@ -225,7 +274,11 @@ impl Met {
     fn fits(&self, section: usize) -> bool {
         let length = self.length(section);
         match section {
-            UNIT => length == 32,
+            UNIT => match (self.pairs.len(), self.form) {
+                (4, _) | (_, Some(2)) => length == 32,
+                (_, Some(_)) => length == 34,
+                (_, None) => length == 32 || length == 34,
+            },
             START_UP | SHUT_DOWN => [2, 4, 6, 8, 10, 12, 14, 16].contains(&length),
             HOURS => self.hours_of(self.hour_bytes()),
             _ => length == 2,
@@ -269,9 +322,14 @@ impl Met {
         self.wrong_alone(5, FORM) && self.length(FORM) == bytes
     }
 
-    /// Whether this section alone has a wrong length, beside a form number that is not 2.
+    /// Whether the unit alone has a wrong length in this form, and it is this one.
+    fn unit_of(&self, form: u16, bytes: usize) -> bool {
+        self.wrong_alone(5, UNIT) && self.form == Some(form) && self.length(UNIT) == bytes
+    }
+
+    /// Whether this section alone has a wrong length, beside a form number that is neither 2 nor 3.
     fn before_12(&self, section: usize) -> bool {
-        self.wrong_alone(5, section) && !self.bytes.ends_with(&[2, 0])
+        self.wrong_alone(5, section) && !matches!(self.form, Some(2 | 3))
     }
 
     /// Whether it is refused for this form number.
@@ -287,6 +345,11 @@ impl Met {
     /// Whether so many pairs hold a record that is refused so.
     fn refused_by_limit(&self, pairs: usize, number: u32) -> bool {
         self.refused(number) && self.pairs.len() == pairs && self.held.is_some()
+    }
+
+    /// Whether a file of this form holds a record that is refused so.
+    fn refused_in(&self, form: u16, number: u32) -> bool {
+        self.refused_by_limit(5, number) && self.form == Some(form)
     }
 
     /// Whether a cost that it holds is below zero.

@@ -1,11 +1,13 @@
-//! The kinds of what a comparison meets, each with its test, to be counted: pairs of lists, files, records, days and
-//! calendars.
+//! The kinds of what a comparison meets, each with its test, to be counted: pairs of lists, files, records, days,
+//! calendars, days inside a sequence and lists of such days.
 
 pub mod calendars;
 pub mod days;
 pub mod files;
+pub mod lists;
 pub mod pairs;
 pub mod records;
+pub mod stages;
 
 /// A kind in words, and whether what was met is of it.
 pub struct Kind<M> {
@@ -26,10 +28,13 @@ pub enum Family {
     Record,
     Day,
     Calendar,
+    Stage,
+    List,
 }
 
 /// All of them, in the order in which they are printed.
-pub const FAMILIES: [Family; 5] = [Family::Pair, Family::File, Family::Record, Family::Day, Family::Calendar];
+pub const FAMILIES: [Family; 7] =
+    [Family::Pair, Family::File, Family::Record, Family::Day, Family::Calendar, Family::Stage, Family::List];
 
 impl Family {
     /// The word for one.
@@ -40,6 +45,8 @@ impl Family {
             Family::Record => "record",
             Family::Day => "day",
             Family::Calendar => "calendar",
+            Family::Stage => "staged day",
+            Family::List => "list",
         }
     }
 }
@@ -52,6 +59,8 @@ pub struct Counts {
     records: [u64; records::KINDS.len()],
     days: [u64; days::KINDS.len()],
     calendars: [u64; calendars::KINDS.len()],
+    stages: [u64; stages::KINDS.len()],
+    lists: [u64; lists::KINDS.len()],
 }
 
 impl Default for Counts {
@@ -62,6 +71,8 @@ impl Default for Counts {
             records: [0; records::KINDS.len()],
             days: [0; days::KINDS.len()],
             calendars: [0; calendars::KINDS.len()],
+            stages: [0; stages::KINDS.len()],
+            lists: [0; lists::KINDS.len()],
         }
     }
 }
@@ -92,6 +103,16 @@ impl Counts {
         add(&calendars::KINDS, met, &mut self.calendars);
     }
 
+    /// Counts a day by what it opens and closes inside.
+    pub fn stage(&mut self, met: &stages::Met) {
+        add(&stages::KINDS, met, &mut self.stages);
+    }
+
+    /// Counts a list that was checked.
+    pub fn list(&mut self, met: &lists::Met) {
+        add(&lists::KINDS, met, &mut self.lists);
+    }
+
     /// Each kind in words, with how often it came up.
     fn of(&self, family: Family) -> Vec<(&'static str, u64)> {
         match family {
@@ -100,6 +121,8 @@ impl Counts {
             Family::Record => beside(&records::KINDS, &self.records),
             Family::Day => beside(&days::KINDS, &self.days),
             Family::Calendar => beside(&calendars::KINDS, &self.calendars),
+            Family::Stage => beside(&stages::KINDS, &self.stages),
+            Family::List => beside(&lists::KINDS, &self.lists),
         }
     }
 

@@ -1,5 +1,5 @@
 //! The kinds of records that are written, checked and searched: which test refuses a record (scope, "Refusal list";
-//! request F-2), and which comes first of two.
+//! requests F-2 and F-5), and which comes first of two.
 
 use super::{kind, Kind};
 use oracle::case::{Case, MOST_HOURS};
@@ -24,7 +24,7 @@ pub struct Met {
 }
 
 /// All kinds.
-pub const KINDS: [Kind<Met>; 42] = [
+pub const KINDS: [Kind<Met>; 67] = [
     kind("2", |met| met.number == 2),
     kind("3", |met| met.number == 3),
     kind("4", |met| met.number == 4),
@@ -67,9 +67,133 @@ pub const KINDS: [Kind<Met>; 42] = [
     kind("13 before 10 of writing", |met| met.number == 13 && met.writes() && met.is_short()),
     kind("13 before 10 of the search", |met| met.number == 13 && met.searches() && met.is_short()),
     kind("13 with enough memory", |met| met.number == 13 && met.searches() && !met.is_short()),
+    kind("start-up stage, written", |met| met.number == 0 && met.writes() && met.case.up_stage > 0),
+    kind("start-up stage, checked", |met| met.number == 0 && met.checks() && met.case.up_stage > 0),
+    kind("start-up stage, searched", |met| met.number == 0 && met.searches() && met.case.up_stage > 0),
+    kind("shut-down stage, written", |met| met.number == 0 && met.writes() && met.case.down_stage > 0),
+    kind("shut-down stage, checked", |met| met.number == 0 && met.checks() && met.case.down_stage > 0),
+    kind("shut-down stage, searched", |met| met.number == 0 && met.searches() && met.case.down_stage > 0),
+    kind("7 by h 0 alone", |met| met.is_alone(Fault::HoursOutside) && met.case.h == 0),
+    kind("7 by h 10,001 alone", |met| met.is_alone(Fault::HoursOutside) && met.case.h == 10_001),
+    kind("h 10,001 beside a shut-down stage", |met| {
+        met.is_alone(Fault::HoursOutside) && met.case.down_stage > 0
+    }),
+    kind("7 by both stages, the start-up in order", |met| met.is_both(Fault::of_stop)),
+    kind("7 by both stages, the shut-down in order", |met| met.is_both(Fault::of_start)),
+    kind("7 by start-up stage UD alone", |met| met.is_alone(Fault::StartPastLast) && met.up() == met.case.ud),
+    kind("7 by a start-up stage above UD", |met| {
+        met.number == 7 && met.case.down_stage == 0 && met.up() > met.case.ud
+    }),
+    kind("7 by p(0) not PU(stage) alone", |met| met.is_alone(Fault::NotStartOutput)),
+    kind("7 by h below the start-up stage alone", |met| {
+        met.is_alone(Fault::NotStartHours) && met.hours_before() < met.up()
+    }),
+    kind("7 by h above the start-up stage alone", |met| {
+        met.is_alone(Fault::NotStartHours) && met.hours_before() > met.up()
+    }),
+    kind("7 by shut-down stage 1 alone", |met| met.is_alone(Fault::StopStage) && met.down() == 1),
+    kind("7 by a shut-down stage above DD alone", |met| met.is_alone(Fault::StopStage) && met.down() > 1),
+    kind("7 by p(0) not PD(stage) alone", |met| met.is_alone(Fault::NotStopOutput)),
+    kind("7 by h one too low for the shut-down stage", |met| {
+        met.is_alone(Fault::StopHours) && met.hours_before() + 2 == met.case.ud + met.down()
+    }),
+    kind("h just enough for the shut-down stage", |met| {
+        met.number == 0 && met.down() > 0 && met.hours_before() + 1 == met.case.ud + met.down()
+    }),
+    kind("7 by p(0) of a trajectory without a stage", |met| {
+        met.is_alone(Fault::Output) && met.is_on_trajectory()
+    }),
+    kind("7 by p(0) above capacity alone", |met| {
+        met.is_alone(Fault::Output) && met.case.p0 > met.case.capacity
+    }),
+    kind("7 by h below UD alone", |met| met.is_alone(Fault::OnLineHours)),
+    kind("7 before 13", |met| met.number == 7 && met.has_stage() && met.outside().next().is_some()),
 ];
 
+/// What 7 is given for.
+#[derive(Clone, Copy, Debug, PartialEq, Eq)]
+enum Fault {
+    /// h is not from 1 to 10,000.
+    HoursOutside,
+    /// Of a start-up stage: it is not below UD; p(0) is not PU(stage); h is not the stage.
+    StartPastLast,
+    NotStartOutput,
+    NotStartHours,
+    /// Of a shut-down stage: it is not from 2 to DD; p(0) is not PD(stage); h is below UD + stage - 1.
+    StopStage,
+    NotStopOutput,
+    StopHours,
+    /// With no stage: p(0) is neither 0 nor from minimum to capacity; h is below UD with p(0) above 0.
+    Output,
+    OnLineHours,
+}
+
+impl Fault {
+    /// Whether it is one of a start-up stage, or of a shut-down stage.
+    fn of_start(self) -> bool {
+        matches!(self, Fault::StartPastLast | Fault::NotStartOutput | Fault::NotStartHours)
+    }
+    fn of_stop(self) -> bool {
+        matches!(self, Fault::StopStage | Fault::NotStopOutput | Fault::StopHours)
+    }
+}
+
 impl Met {
+    /// The stages and h, as counts.
+    fn up(&self) -> usize {
+        self.case.up_stage.into()
+    }
+    fn down(&self) -> usize {
+        self.case.down_stage.into()
+    }
+    fn hours_before(&self) -> usize {
+        self.case.h.into()
+    }
+
+    /// Whether a stage is set.
+    fn has_stage(&self) -> bool {
+        self.up() > 0 || self.down() > 0
+    }
+
+    /// Whether p(0) is an output of PU or of PD below the minimum output.
+    fn is_on_trajectory(&self) -> bool {
+        let case = &self.case;
+        let stages = [&case.pu[..case.ud], &case.pd[..case.dd]].concat();
+        case.p0 < case.minimum && stages.contains(&case.p0)
+    }
+
+    /// All that 7 could be given for, of a record whose counts are in order; both stages are tested each for itself.
+    fn faults(&self) -> Vec<Fault> {
+        let (case, up, down, h) = (&self.case, self.up(), self.down(), self.hours_before());
+        let output = |stages: &[u16], stage: usize| stages.get(stage - 1) == Some(&case.p0);
+        let on_line = case.p0 > 0;
+        let tests = [
+            (Fault::HoursOutside, !(1..=10_000).contains(&h)),
+            (Fault::StartPastLast, up > 0 && up >= case.ud),
+            (Fault::NotStartOutput, up > 0 && !output(&case.pu, up)),
+            (Fault::NotStartHours, up > 0 && h != up),
+            (Fault::StopStage, down == 1 || down > case.dd),
+            (Fault::NotStopOutput, down > 0 && !output(&case.pd, down)),
+            (Fault::StopHours, down > 0 && h + 1 < case.ud + down),
+            (
+                Fault::Output,
+                !self.has_stage() && on_line && !(case.minimum..=case.capacity).contains(&case.p0),
+            ),
+            (Fault::OnLineHours, !self.has_stage() && on_line && h < case.ud),
+        ];
+        tests.into_iter().filter(|&(_, is_met)| is_met).map(|(fault, _)| fault).collect()
+    }
+
+    /// Whether 7 is given for this alone.
+    fn is_alone(&self, fault: Fault) -> bool {
+        self.number == 7 && !(self.up() > 0 && self.down() > 0) && self.faults() == [fault]
+    }
+
+    /// Whether 7 is given for both stages, and whatever else is not in order is of the one that is named.
+    fn is_both(&self, of: fn(Fault) -> bool) -> bool {
+        self.number == 7 && self.up() > 0 && self.down() > 0 && self.faults().into_iter().all(of)
+    }
+
     /// Whether the call is of this name.
     fn writes(&self) -> bool {
         matches!(self.asked, Asked::Write { .. })
