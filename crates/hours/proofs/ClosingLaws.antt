@@ -1,12 +1,13 @@
 -- The mark of a day that closes at an entry of the shut-down trajectory, by the tests that it passes. Assumes nothing.
-use mathlib.Core.Path.{_≡_, refl, ap, _∙_}
-use mathlib.Core.Bool.{Bool, true, false, _&&_}
+use mathlib.Core.Path.{_≡_, ap, _∙_}
+use mathlib.Core.Bool.{_&&_}
 use mathlib.Core.List.{List}
 use Prim.Native.Nat.{ℕ, _+_, _-_, _≤_, _<_}
 use native.Mathlib.Omega.{arith}
 use borrow.Author.Tests.{lt-leb, le-leb}
 use lib.Dec.{leb, eqb}
 use lib.ListN.{getD}
+use Rattle.laws.proofs.Tests.{and-false}
 use Rattle.model.specs.declared.Output.{Output}
 use Rattle.model.specs.Symbols.{bit, stage}
 use Rattle.model.proofs.ConstraintsLaws.{stage-more}
@@ -20,11 +21,7 @@ module _ (i n a b : ℕ) where
   closing-early h = ap (λ t. bit (t && (leb i n && eqb a b))) (lt-leb 2 i h)
 
   pub closing-late : n < i → closed ≡ 0
-  closing-late h = ap (λ t. bit (leb 2 i && (t && eqb a b))) (lt-leb i n h) ∙ none (leb 2 i)
-    where
-      none : (t : Bool) → bit (t && false) ≡ 0
-      none true = refl
-      none false = refl
+  closing-late h = ap (λ t. bit (leb 2 i && (t && eqb a b))) (lt-leb i n h) ∙ ap bit (and-false (leb 2 i))
 
   pub closing-at : 2 ≤ i → i ≤ n → closed ≡ bit (eqb a b)
   closing-at h m =

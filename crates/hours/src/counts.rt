@@ -13,8 +13,7 @@ ghost use mathlib.Core.Bool.{_&&_};
 ghost use Prim.Native.Nat.{ℕ, _-_, _≤_};
 ghost use lib.Dec.{leb, eqb};
 ghost use lib.ListN.{replicate};
-ghost use Rattle.model.specs.Limits.{mostStages};
-ghost use Rattle.model.specs.Symbols.{bit, last, stage};
+ghost use Rattle.model.specs.Symbols.{bit, DD, PD, last};
 ghost use Rattle.model.specs.Marks.{starting, z};
 ghost use Rattle.model.specs.Refusals.{refusalOf};
 ghost use Rattle.hours.specs.Counted.{countsLength, lastCount, counted, startOf, Running, Counted};
@@ -47,16 +46,17 @@ fn start_at(case: Case, list: &[u16], n: usize) -> u8
 }
 
 // 1 where a day that ends at this output closes at entry i of the shut-down trajectory, else 0.
-fn closing(fall: [Output; STAGES], falls: usize, end: Output, i: usize) -> u8
-    requires { ⌜ falls ≤ mostStages ⌝ }
-    ensures { λ r. ⌜ r ≡ bit (leb 2 i && (leb i falls && eqb (end .0) (stage fall i))) ⌝ }
+fn closing(case: Case, end: Output, i: usize) -> u8
+    requires { ⌜ refusalOf case ≡ 0 ⌝ }
+    ensures { λ r. ⌜ r ≡ bit (leb 2 i && (leb i (DD case) && eqb (end .0) (PD case i))) ⌝ }
 {
     if i < 2 {
         return 0;
     }
-    if falls < i {
+    if case.falls < i {
         return 0;
     }
+    let fall = case.fall;
     let output = fall[i - 1];
     if end.0 == output.0 { 1 } else { 0 }
 }
@@ -81,13 +81,7 @@ fn stop_at(case: Case, list: &[u16], started: u8, k: Hour) -> u8
     if started != 0 {
         return 0;
     }
-    let fall = case.fall;
-    closing(
-        fall,
-        case.falls,
-        output_at(case, list, Hour(hours as u16)),
-        end - at,
-    )
+    closing(case, output_at(case, list, Hour(hours as u16)), end - at)
 }
 
 // The counts of the starts of a list, in place of zeros.

@@ -66,11 +66,11 @@ fn print_output(output: Output) {
     print_number(b" ", output.0 as u64);
 }
 
-// The first hours of a list.
-fn print_list(outputs: &[u16], hours: usize) {
+// The first n outputs of a list.
+fn print_list(outputs: &[u16], n: usize) {
     let mut k = 0;
     while k < outputs.len() {
-        if k < hours {
+        if k < n {
             let output = outputs[k];
             print_output(Output(output));
         }
@@ -168,7 +168,7 @@ fn priced(
     initial: Output,
     elapsed: Hour,
     mindown: Hour,
-    hours: usize,
+    hours: Hour,
     prices: [Mills; HOURS],
     orders: [u8; HOURS],
 ) -> Reading {
@@ -199,7 +199,7 @@ fn priced(
         orders: orders,
         rises: 2,
         falls: 2,
-        hours: hours,
+        hours: hours.0 as usize,
     })
 }
 
@@ -208,7 +208,7 @@ fn small(
     initial: Output,
     elapsed: Hour,
     mindown: Hour,
-    hours: usize,
+    hours: Hour,
     price: Mills,
     orders: [u8; HOURS],
 ) -> Reading {
@@ -218,13 +218,34 @@ fn small(
 // The known days 1 to 7, which have no orders.
 fn print_free() {
     let free = [0u8; HOURS];
-    print_best(b"1", small(Output(0), Hour(2), Hour(1), 1, Mills(10), free));
-    print_best(b"2", small(Output(0), Hour(2), Hour(1), 1, Mills(18), free));
-    print_best(b"3", small(Output(0), Hour(2), Hour(1), 1, Mills(19), free));
-    print_best(b"4", small(Output(2), Hour(2), Hour(1), 1, Mills(10), free));
-    print_best(b"5", small(Output(2), Hour(2), Hour(1), 2, Mills(5), free));
-    print_best(b"6", small(Output(3), Hour(2), Hour(1), 2, Mills(5), free));
-    print_best(b"7", small(Output(3), Hour(2), Hour(1), 3, Mills(5), free));
+    print_best(
+        b"1",
+        small(Output(0), Hour(2), Hour(1), Hour(1), Mills(10), free),
+    );
+    print_best(
+        b"2",
+        small(Output(0), Hour(2), Hour(1), Hour(1), Mills(18), free),
+    );
+    print_best(
+        b"3",
+        small(Output(0), Hour(2), Hour(1), Hour(1), Mills(19), free),
+    );
+    print_best(
+        b"4",
+        small(Output(2), Hour(2), Hour(1), Hour(1), Mills(10), free),
+    );
+    print_best(
+        b"5",
+        small(Output(2), Hour(2), Hour(1), Hour(2), Mills(5), free),
+    );
+    print_best(
+        b"6",
+        small(Output(3), Hour(2), Hour(1), Hour(2), Mills(5), free),
+    );
+    print_best(
+        b"7",
+        small(Output(3), Hour(2), Hour(1), Hour(3), Mills(5), free),
+    );
 }
 
 // The known days 8 to 12: those with orders, and the lists that are checked.
@@ -235,36 +256,57 @@ fn print_ordered() {
     orders[3] = 2;
     print_best(
         b"8",
-        small(Output(0), Hour(2), Hour(1), 4, Mills(10), orders),
+        small(Output(0), Hour(2), Hour(1), Hour(4), Mills(10), orders),
     );
     print_check(
         b"9",
-        small(Output(0), Hour(2), Hour(1), 1, Mills(10), free),
+        small(Output(0), Hour(2), Hour(1), Hour(1), Mills(10), free),
         &[2u16],
     );
     print_check(
         b"10",
-        small(Output(2), Hour(2), Hour(1), 1, Mills(10), free),
+        small(Output(2), Hour(2), Hour(1), Hour(1), Mills(10), free),
         &[4u16],
     );
     print_best(
         b"11",
-        small(Output(0), Hour(1), Hour(2), 1, Mills(10), [1u8; HOURS]),
+        small(
+            Output(0),
+            Hour(1),
+            Hour(2),
+            Hour(1),
+            Mills(10),
+            [1u8; HOURS],
+        ),
     );
     orders[0] = 2;
     print_best(
         b"12",
-        small(Output(0), Hour(2), Hour(1), 4, Mills(10), orders),
+        small(Output(0), Hour(2), Hour(1), Hour(4), Mills(10), orders),
     );
 }
 
 // An hour of the unit at 2 MW, at a price of F and above it.
 fn level() -> Reading {
-    small(Output(2), Hour(2), Hour(1), 1, Mills(10), [0u8; HOURS])
+    small(
+        Output(2),
+        Hour(2),
+        Hour(1),
+        Hour(1),
+        Mills(10),
+        [0u8; HOURS],
+    )
 }
 
 fn dear() -> Reading {
-    small(Output(2), Hour(2), Hour(1), 1, Mills(12), [0u8; HOURS])
+    small(
+        Output(2),
+        Hour(2),
+        Hour(1),
+        Hour(1),
+        Mills(12),
+        [0u8; HOURS],
+    )
 }
 
 // One list passes; both do, and the higher profit, or the lower output, wins; identical lists; neither passes.
@@ -281,7 +323,14 @@ fn print_pairs() {
 
 // A first and a second list of another length; and a case that is refused, which comes before 9.
 fn print_refused_pairs() {
-    let case = small(Output(1), Hour(2), Hour(1), 1, Mills(10), [0u8; HOURS]);
+    let case = small(
+        Output(1),
+        Hour(2),
+        Hour(1),
+        Hour(1),
+        Mills(10),
+        [0u8; HOURS],
+    );
     print_better(b"first of 2 outputs", level(), &[2u16, 2], &[2u16]);
     print_better(b"second of 2 outputs", level(), &[2u16], &[2u16, 2]);
     print_better(b"refused case", case, &[2u16, 2], &[2u16]);
@@ -289,11 +338,11 @@ fn print_refused_pairs() {
 
 // An hour of the unit off-line, and of the unit at 2 MW.
 fn idle(price: Mills, order: u8) -> Reading {
-    small(Output(0), Hour(2), Hour(1), 1, price, [order; HOURS])
+    small(Output(0), Hour(2), Hour(1), Hour(1), price, [order; HOURS])
 }
 
 fn running(price: Mills) -> Reading {
-    small(Output(2), Hour(2), Hour(1), 1, price, [0u8; HOURS])
+    small(Output(2), Hour(2), Hour(1), Hour(1), price, [0u8; HOURS])
 }
 
 // Below zero: staying off-line earns 0, and an order on-line is kept at a loss; above 65.535 dollars.
@@ -315,11 +364,11 @@ fn print_limits() {
     let free = [0u8; HOURS];
     print_best(
         b"past the last hour",
-        priced(Output(0), Hour(2), Hour(1), 1, prices, free),
+        priced(Output(0), Hour(2), Hour(1), Hour(1), prices, free),
     );
     print_best(
         b"in the last hour",
-        priced(Output(0), Hour(2), Hour(1), 2, prices, free),
+        priced(Output(0), Hour(2), Hour(1), Hour(2), prices, free),
     );
 }
 
@@ -329,7 +378,7 @@ fn quiet(hours: Hour, order: u8) -> Reading {
         Output(0),
         Hour(2),
         Hour(1),
-        hours.0 as usize,
+        hours,
         Mills(10),
         [order; HOURS],
     )
@@ -380,7 +429,14 @@ fn print_windows() {
 
 // The windows replace the case's own orders, which 8 still tests; a start that the unit cannot make is 11.
 fn print_replaced() {
-    let late = small(Output(0), Hour(1), Hour(2), 24, Mills(10), [0u8; HOURS]);
+    let late = small(
+        Output(0),
+        Hour(1),
+        Hour(2),
+        Hour(24),
+        Mills(10),
+        [0u8; HOURS],
+    );
     print_off(
         b"own on-line, off-line by a window",
         quiet(Hour(24), 1),
@@ -486,7 +542,7 @@ fn staged(
     upstage: u8,
     downstage: u8,
     minup: Hour,
-    hours: usize,
+    hours: Hour,
     price: Mills,
 ) -> Reading {
     let mut rise = [Output(0); STAGES];
@@ -518,7 +574,7 @@ fn staged(
         orders: [0u8; HOURS],
         rises: 3,
         falls: 3,
-        hours: hours,
+        hours: hours.0 as usize,
     })
 }
 
@@ -526,7 +582,15 @@ fn staged(
 fn print_opening(name: &[u8], initial: Output, elapsed: Hour, upstage: u8, downstage: u8) {
     print_best(
         name,
-        staged(initial, elapsed, upstage, downstage, Hour(1), 2, Mills(10)),
+        staged(
+            initial,
+            elapsed,
+            upstage,
+            downstage,
+            Hour(1),
+            Hour(2),
+            Mills(10),
+        ),
     );
 }
 
@@ -560,24 +624,27 @@ fn print_closings() {
     let five = Mills(5);
     print_best(
         b"closes at PD(2)",
-        staged(low, Hour(3), 0, 0, Hour(1), 1, five),
+        staged(low, Hour(3), 0, 0, Hour(1), Hour(1), five),
     );
     print_best(
         b"closes at PD(3)",
-        staged(low, Hour(3), 0, 0, Hour(1), 2, five),
+        staged(low, Hour(3), 0, 0, Hour(1), Hour(2), five),
     );
-    print_best(b"closes at 0", staged(low, Hour(3), 0, 0, Hour(1), 3, five));
+    print_best(
+        b"closes at 0",
+        staged(low, Hour(3), 0, 0, Hour(1), Hour(3), five),
+    );
     print_best(
         b"opens and closes in a shut-down",
-        staged(Output(2), Hour(4), 0, 2, Hour(1), 1, five),
+        staged(Output(2), Hour(4), 0, 2, Hour(1), Hour(1), five),
     );
     print_best(
         b"opening stop too early",
-        staged(Output(2), Hour(4), 0, 2, Hour(6), 2, five),
+        staged(Output(2), Hour(4), 0, 2, Hour(6), Hour(2), five),
     );
     print_best(
         b"opening stop late enough",
-        staged(Output(2), Hour(4), 0, 2, Hour(5), 2, five),
+        staged(Output(2), Hour(4), 0, 2, Hour(5), Hour(2), five),
     );
 }
 
@@ -587,22 +654,22 @@ fn print_shared() {
     let ten = Mills(10);
     print_check(
         b"2 MW in a start-up",
-        staged(off, Hour(1), 0, 0, Hour(8), 2, ten),
+        staged(off, Hour(1), 0, 0, Hour(8), Hour(2), ten),
         &[1u16, 2],
     );
     print_check(
         b"2 MW after a start-up",
-        staged(off, Hour(1), 0, 0, Hour(5), 4, ten),
+        staged(off, Hour(1), 0, 0, Hour(5), Hour(4), ten),
         &[1u16, 2, 4, 2],
     );
     print_check(
         b"stop after T too early",
-        staged(off, Hour(1), 0, 0, Hour(6), 4, ten),
+        staged(off, Hour(1), 0, 0, Hour(6), Hour(4), ten),
         &[1u16, 2, 4, 2],
     );
     print_check(
         b"2 MW from above",
-        staged(Output(5), Hour(9), 0, 0, Hour(1), 1, ten),
+        staged(Output(5), Hour(9), 0, 0, Hour(1), Hour(1), ten),
         &[2u16],
     );
 }

@@ -7,10 +7,10 @@ use Rattle.known_days.proofs.print_list.Statement.{statement}
 use Rattle.known_days.proofs.print_list.Tie as tie
 
 abbrev Inv-loop : tie.InvT-loop
-Inv-loop outputs hours k₀ k = k ≤ length outputs
+Inv-loop outputs n k₀ k = k ≤ length outputs
 
 abbrev μ-loop : tie.MeasureT-loop
-μ-loop outputs hours k₀ k = length outputs - k
+μ-loop outputs n k₀ k = length outputs - k
 
 loop-holds : tie.Need-loop-holds Inv-loop μ-loop
 loop-holds c = omega arith

@@ -1,18 +1,16 @@
 -- `hours::counts::count_starts` meets its contract: each hour adds its mark. Assumes nothing.
 use borrow.Author.Needs.{needs}
 use native.Mathlib.Omega.{arith}
-use Prim.Native.Nat.{_-_}
-use Rattle.hours.specs.Counted.{lastCount}
+use Prim.Native.Nat.{suc, _-_}
+use Rattle.model.specs.Limits.{mostStages}
+use Rattle.model.proofs.LimitsLaws.{limits-of-refusalOf}
+use Rattle.model.proofs.TimesLaws.{yBack-le}
+use Rattle.hours.specs.Counted.{lastCount, startOf}
 use Rattle.hours.proofs.CountLaws.{counting-few}
+use Rattle.hours.proofs.StartsLaws.{start-zero}
 use Rattle.hours.proofs.MarkingLaws.{Marking, marking-start, marking-step, marking-end}
 use Rattle.hours.proofs.counts.count_starts.Statement.{statement}
 use Rattle.hours.proofs.counts.count_starts.Tie as tie
-use Rattle.model.proofs.LimitsLaws.{limits-of-refusalOf}
-use Rattle.model.proofs.TimesLaws.{yBack-le}
-use Rattle.model.specs.Limits.{mostStages}
-use Prim.Native.Nat.{suc}
-use Rattle.hours.specs.Counted.{startOf}
-use Rattle.hours.proofs.StartsLaws.{start-zero}
 
 abbrev Inv-loop : tie.InvT-loop
 Inv-loop case list starts₀ marks₀ n₀ starts marks n = Marking (startOf case list) n marks starts

@@ -60,20 +60,20 @@ returns-3 c =
     let a = s .args in
     sym (z-started (a .case) (a .list .now) (a .k .0) (search needs) (λ e. omega (arith, s .pre)))
 
-cast-t17 : tie.Need-cast-t17
-cast-t17 c = search needs
+cast-t16 : tie.Need-cast-t16
+cast-t16 c = search needs
 
 output-at-requires-3 : tie.Need-output-at-requires-3
 output-at-requires-3 c κs = search needs
 
 closing-requires : tie.Need-closing-requires
 closing-requires c κs =
-    let s = c .before .before .before .before .before .before .before .before in
-    limits s .falls-le
+    let s = c .before .before .before .before .before .before .before in
+    s .pre .0
 
 returns-4 : tie.Need-returns-4
 returns-4 c =
-    let s = c .before .before .before .before .before .before .before .before .before in
+    let s = c .before .before .before .before .before .before .before .before in
     let a = s .args in
     let case = a .case in
     let i = case .hours + case .falls + 1 - a .k .0 in
@@ -95,7 +95,7 @@ stop-at-spec =
     add-end-2
     returns-2
     returns-3
-    cast-t17
+    cast-t16
     output-at-requires-3
     closing-requires
     returns-4)
