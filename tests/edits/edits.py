@@ -11,12 +11,7 @@ import sys
 
 # The edits that state one claim of the definitions and of the code, or of two functions: the crates of each name.
 SHARED = {
-    "invented_profit": ["best", "model"],
     "no_schedule_unsearched": ["best", "model"],
-    "outputs_untouched": ["model", "search"],
-    "profit_on_p_alone": ["model", "profit"],
-    "ramp_down_inside_pd": ["broken", "model"],
-    "stop_hour_charged_a": ["model", "profit"],
 }
 
 
