@@ -13,6 +13,15 @@ pub both→and : (a b : Bool) → T a → T b → T (a && b)
 both→and true b s t = t
 both→and false b s t = absurd s
 
+-- a last test that passes, and one that does not
+pub and-true : (a : Bool) → a && true ≡ a
+and-true true = refl
+and-true false = refl
+
+pub and-false : (a : Bool) → a && false ≡ false
+and-false true = refl
+and-false false = refl
+
 -- disjunction
 pub or→either : (a b : Bool) → T (a || b) → T a ⊎ T b
 or→either true b t = inl tt

@@ -5,13 +5,13 @@ use mathlib.Core.Bool.{Bool, true, false, _||_, not}
 use mathlib.Core.List.{List}
 use Prim.Native.Nat.{ℕ, zero, suc, _+_, _*_, _-_, _<_}
 use native.Mathlib.Omega.{arith}
-use borrow.Author.Tests.{eq-eqb, ne-eqb, le-leb}
+use borrow.Author.Tests.{eq-eqb, le-leb}
 use lib.Dec.{T, eqb, eqb·suc-zero}
 use lib.ListN.{length}
 use Rattle.model.specs.declared.Case.{Case}
 use Rattle.model.specs.Limits.{mostStages, mostHours}
 use Rattle.model.specs.Symbols.{every, before}
-use Rattle.model.specs.Forms.{Form, unknown}
+use Rattle.model.specs.Forms.{Form, numbered, unknown}
 use Rattle.model.specs.Layout.{offsetAt, lengthAt, endAt, formNumberAt, caseIn, caseOf}
 use Rattle.model.specs.Refusals.{within, fits, refusal1, fitting, refusal2File, refusal12, firstOf, fileTests}
 use Rattle.model.specs.Refusals.{refusalOf}
@@ -20,6 +20,7 @@ use Rattle.model.specs.Published.{Counts, Limited, limit2, limit3, limit
 use Rattle.model.specs.Published.{limit13, FirstRefused, later, fileOrder}
 use Rattle.model.specs.Published.{word, old, Chained, Measured, Holds, FileLimited, file1, file2, file12, held}
 use Rattle.model.proofs.RefusalsLaws.{first-exactly, first-cond, first-rest, first-same, fits-times}
+use Rattle.model.proofs.RefusalsLaws.{refusal12-old, refusal12-late}
 use Rattle.model.proofs.LimitsLaws.{Between}
 use Rattle.model.proofs.LimitedLaws.{refusalOf-first}
 use Rattle.model.proofs.FormsLaws.{oldFront, front, Known, is-old, is-two, is-new, four-sections, known}
@@ -156,13 +157,10 @@ module _ (s : List ℕ) where
         (number-known s (λ z. omega (arith, offset-word s 0)) t))
 
     passes12 : FileLimited s 12 → refusal12 s ≡ false
-    unfolding refusal12 unknown
-    passes12 (file12 l) = ⊎-elim
-        (λ first. rw (eq-eqb (offsetAt s 0) oldFront (offset-word s 0 ∙ first)))
-        (λ first. ⊎-elim
-        (λ n. rw (ne-eqb (offsetAt s 0) oldFront (λ z. omega (arith, offset-word s 0)), last first ∙ n))
-        (λ n. rw (ne-eqb (offsetAt s 0) oldFront (λ z. omega (arith, offset-word s 0)), last first ∙ n))
-        (l first))
+    unfolding unknown
+    passes12 (file12 l) = ⊎-elim (λ first. refusal12-old s (offset-word s 0 ∙ first))
+        (λ first. refusal12-late s (λ z. omega (arith, offset-word s 0))
+        ∙ ⊎-elim (λ n. ap (unknown numbered) (last first ∙ n)) (λ n. ap (unknown numbered) (last first ∙ n)) (l first))
         (holds .chained .forms)
     passes12 (held n c k l) = absurd (limited-own l)
 

@@ -1,8 +1,8 @@
 -- Laws of the forms: which one a file has, and signed 32-bit numbers by their bits. Assumes nothing.
 use mathlib.Core.Path.{_≡_, refl, ap, _∙_}
 use mathlib.Core.Logic.{_⊎_, inl, inr}
-use mathlib.Core.Bool.{Bool, true, false, cond, true≢false}
-use mathlib.Core.List.{List, [], _∷_, _++_}
+use mathlib.Core.Bool.{Bool, true, false, _&&_, not, cond, true≢false}
+use mathlib.Core.List.{List}
 use Prim.Native.Nat.{ℕ, suc, _-_, _<_, _≤_}
 use native.Mathlib.Decide.{ℕ-discrete, decLt}
 use native.Mathlib.Omega.{arith}
@@ -11,26 +11,15 @@ use lib.Dec.{ltb, eqb}
 use lib.IntN.{ℤ, pos, negsuc, natAbs, _-ℤ_}
 use lib.ListN.{length}
 use Rattle.laws.proofs.Signed.{up, down, parts-eq, parts--}
+use Rattle.laws.proofs.Tests.{and-true}
 use Rattle.model.specs.Limits.{longs, halfLongs}
 use Rattle.model.specs.Symbols.{every, before}
-use Rattle.model.specs.Forms.{Form, unitWidths, formWith, oldForm, form2, newest, numbered, formNumbered, unknown}
-use Rattle.model.specs.Forms.{entryLength, pairsLength}
-use Rattle.model.specs.Layout.{offsetAt, formNumberAt, formOf, signed, unsigned}
+use Rattle.model.specs.Forms.{Form, oldForm, form2, newest, numbered, formNumbered, unknown, entryLength}
+use Rattle.model.specs.Forms.{pairsLength}
+use Rattle.model.specs.Layout.{numberAt, offsetAt, sectionAt, formNumberAt, formOf, signed, unsigned}
 use Rattle.model.proofs.LimitsLaws.{every-true}
 
 -- ---- the form of a file
--- the forms differ in the stages that follow the unit's other fields, in the width of a price and in what follows the
--- hours
-abbrev pub formed : List ℕ → ℕ → Form → Form
-formed stages price more = formWith (unitWidths ++ stages) price more
-
--- the stages of form 3, and the form section, which follows the hours in the forms that hold their number
-abbrev pub stageWidths : List ℕ
-stageWidths = 1 ∷ 1 ∷ []
-
-abbrev pub numberSection : Form
-numberSection = (2 ∷ []) ∷ []
-
 -- where the unit begins in the old form, and in those that hold their number
 abbrev pub oldFront : ℕ
 oldFront = pairsLength (oldForm .1)
@@ -53,6 +42,11 @@ pub five-sections : {file : List ℕ} {f : Form} → Known file f → length f �
 five-sections (is-old d) = omega arith
 five-sections (is-two d n) = omega arith
 five-sections (is-new d n) = omega arith
+
+-- the form number is that of the fifth section
+pub number-section : (file : List ℕ) → formNumberAt file ≡ numberAt (sectionAt file 4) 0 2
+unfolding formNumberAt
+number-section file = refl
 
 -- every section has bytes
 all-wide : {file : List ℕ} {f : Form} → Known file f → every (λ i. ltb 0 (entryLength f (before i))) (length f) ≡ true
@@ -77,7 +71,11 @@ formNumbered-new n h = rw (ne-eqb n (form2 .0) h) (go (eqb n (newest .0)))
     go true = refl
     go false = refl
 
--- a number that some form has
+-- a number that no form has, and one that some form has
+pub unknown-is : (n : ℕ) → unknown numbered n ≡ not (eqb n (newest .0)) && not (eqb n (form2 .0))
+unfolding unknown
+unknown-is n = ap (λ t. not (eqb n (newest .0)) && t) (and-true (not (eqb n (form2 .0))))
+
 pub unknown-false : (n : ℕ) → unknown numbered n ≡ false → (n ≡ form2 .0) ⊎ (n ≡ newest .0)
 unfolding unknown
 unknown-false n e = go (ℕ-discrete n (form2 .0)) (ℕ-discrete n (newest .0))

@@ -11,7 +11,8 @@ use lib.ListN.{getD}
 use Rattle.model.specs.declared.Case.{Case}
 use Rattle.model.specs.declared.Output.{Output}
 use Rattle.model.specs.Limits.{mostStages}
-use Rattle.model.specs.Forms.{Form, unitWidths, stagedWidths, oldForm, width, entryLength}
+use Rattle.model.specs.Forms.{Form, unitWidths, stageWidths, numberSection, formWith, oldForm, newest, width}
+use Rattle.model.specs.Forms.{entryLength}
 use Rattle.model.specs.Layout.{numberAt, offsetAt, lengthAt, padded, noOutput, noMills, signed, zeroed, bytesOf}
 use Rattle.model.specs.Layout.{sectionAt, fieldAt, formOf, entriesAt, entryAt, caseIn, caseOf}
 use Rattle.model.specs.Refusals.{refusalOf}
@@ -19,8 +20,7 @@ use Rattle.model.specs.Answers.{readOf, outcomeNumber}
 use Rattle.model.specs.Published.{word, long, Signed, Stageless, old, Chained, Measured, Holds}
 use Rattle.model.proofs.LayoutLaws.{numberAt-part, getD-padded-in}
 use Rattle.model.proofs.NumbersLaws.{numberAt-one}
-use Rattle.model.proofs.FormsLaws.{formed, stageWidths, numberSection, oldFront, front, Known, is-old, is-two}
-use Rattle.model.proofs.FormsLaws.{is-new, known}
+use Rattle.model.proofs.FormsLaws.{oldFront, front, Known, is-old, is-two, is-new, known}
 use Rattle.model.proofs.PublishedLaws.{numberAt-word, numberAt-long, offset-word, length-word, end-word}
 use Rattle.model.proofs.PublishedLaws.{signed-of, two-stageless, new-staged}
 use Rattle.model.proofs.RereadLaws.{new-case, new-reads}
@@ -38,16 +38,16 @@ padded-entry rest f g {n} {m} {size} e same room i h =
 -- the stages of a record, and the length of the unit that holds them or does not
 record Staged (s : List ℕ) (c : Case) : Type 0 where
   old-unit : Stageless s → word s 2 ≡ width unitWidths
-  unit : (Stageless s → ⊥) → word s 2 ≡ width stagedWidths
+  unit : (Stageless s → ⊥) → word s 2 ≡ entryLength (newest .1) 0
   no-stages : Stageless s → (c .upstage ≡ 0) × (c .downstage ≡ 0)
   upstage : (Stageless s → ⊥) → getD s (word s 0 + width unitWidths) 0 ≡ c .upstage
   downstage : (Stageless s → ⊥) → getD s (word s 0 + (width unitWidths + 1)) 0 ≡ c .downstage
 
 -- ---- a record whose entries below its counts are those of the file, in a form with these stages and prices of w bytes
-module _ (stages : List ℕ) (w : ℕ) (more : Form) (file : List ℕ) (whole : Whole (formed stages w more) file) (c : Case)
-    (e : caseIn (formed stages w more) file ≡ zeroed c) where
+module _ (stages : List ℕ) (w : ℕ) (more : Form) (file : List ℕ) (whole : Whole (formWith stages w more) file)
+    (c : Case) (e : caseIn (formWith stages w more) file ≡ zeroed c) where
   abbrev form : Form
-  form = formed stages w more
+  form = formWith stages w more
 
   -- a number of section i, at its place in the file
   section-number : (i k size : ℕ) → k + size ≤ lengthAt file i
@@ -184,8 +184,8 @@ module _ (stages : List ℕ) (w : ℕ) (more : Form) (file : List ℕ) (whole : 
 
 -- ---- the stages, in a form without them and in one with them
 module _ (w : ℕ) (more : Form) (file : List ℕ) (c : Case) where
-  without-stages : (whole : Whole (formed [] w more) file) → caseIn (formed [] w more) file ≡ zeroed c → Stageless file
-      → Staged file c
+  without-stages : (whole : Whole (formWith [] w more) file) → caseIn (formWith [] w more) file ≡ zeroed c
+      → Stageless file → Staged file c
   unfolding caseIn zeroed entryAt fieldAt
   without-stages whole e s =
       record {
@@ -196,13 +196,13 @@ module _ (w : ℕ) (more : Form) (file : List ℕ) (c : Case) where
         downstage = λ h. absurd (h s);
       }
 
-  with-stages : (whole : Whole (formed stageWidths w more) file)
-      → caseIn (formed stageWidths w more) file ≡ zeroed c → (Stageless file → ⊥) → Staged file c
+  with-stages : (whole : Whole (formWith stageWidths w more) file)
+      → caseIn (formWith stageWidths w more) file ≡ zeroed c → (Stageless file → ⊥) → Staged file c
   unfolding caseIn zeroed entryAt fieldAt
   with-stages whole e h =
       let long = unit-length stageWidths w more file whole c e in
       let part = sectionAt file 0 in
-      let byte : (k : ℕ) → k + 1 ≤ width stagedWidths → getD file (word file 0 + k) 0 ≡ numberAt part k 1 =
+      let byte : (k : ℕ) → k + 1 ≤ entryLength (newest .1) 0 → getD file (word file 0 + k) 0 ≡ numberAt part k 1 =
       λ k room. sym (numberAt-one file (word file 0 + k))
       ∙ section-number stageWidths w more file whole c e 0 k 1 (omega arith) in
       record {
@@ -262,7 +262,7 @@ module _ (file : List ℕ) (whole : Whole (oldForm .1) file) (c : Case) (e : cas
 
 -- ---- the forms that hold their number
 -- they have sections that follow one another alike
-module _ (stages file : List ℕ) (l : Linked (formed stages 4 numberSection) file) where
+module _ (stages file : List ℕ) (l : Linked (formWith stages 4 numberSection) file) where
   new-first : word file 0 ≡ front
   new-first = sym (offset-word file 0) ∙ l .first
 
@@ -279,8 +279,8 @@ module _ (stages file : List ℕ) (l : Linked (formed stages 4 numberSection) fi
         end = λ z. sym (l .end) ∙ end-word file 4;
       }
 
-module _ (stages file : List ℕ) (whole : Whole (formed stages 4 numberSection) file) (c : Case)
-    (e : caseIn (formed stages 4 numberSection) file ≡ zeroed c) where
+module _ (stages file : List ℕ) (whole : Whole (formWith stages 4 numberSection) file) (c : Case)
+    (e : caseIn (formWith stages 4 numberSection) file ≡ zeroed c) where
   abbrev new-start : word file 0 ≡ front
   new-start = new-first stages file (whole .linked)
 

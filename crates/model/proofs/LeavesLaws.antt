@@ -21,7 +21,7 @@ use Rattle.model.proofs.SymbolsLaws.{sum-zeros, sum-one}
 use Rattle.model.proofs.MarksLaws.{closes-of, of-closes}
 use Rattle.model.proofs.TimesLaws.{y-le, z-le}
 use Rattle.model.proofs.Automaton.Hours.{on, back, since}
-use Rattle.model.proofs.Automaton.HoursLaws.{since-pos}
+use Rattle.model.proofs.Automaton.HoursLaws.{on-pos, since-pos}
 use Rattle.model.proofs.Automaton.Windows.{Win}
 use Rattle.model.proofs.Automaton.Windowed.{win-sum}
 use Rattle.model.proofs.Automaton.Stages.{pu-pos, pd-lt, pd-pos, pd-one}
@@ -33,10 +33,6 @@ use Rattle.model.proofs.Automaton.Joined.{Alike, same, alike-off, alike
 bit-none : (t : Bool) → (t ≡ true → ⊥) → bit t ≡ 0
 bit-none true h = absurd (h refl)
 bit-none false h = refl
-
-on-pos : (i : ℕ) → 1 ≤ i → on i ≡ 1
-on-pos zero h = absurd (omega arith)
-on-pos (suc i) h = refl
 
 module _ (c : Case) (l : List ℕ) where
   -- ---- each number that is left

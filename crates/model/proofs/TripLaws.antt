@@ -13,13 +13,13 @@ use Rattle.model.specs.declared.Case.{Case}
 use Rattle.model.specs.declared.Outcome.the-variants.{Accepted}
 use Rattle.model.specs.declared.Written.the-variants.{Bytes, Refused}
 use Rattle.model.specs.Limits.{words}
-use Rattle.model.specs.Forms.{stagedWidths, oldForm, newest, width}
+use Rattle.model.specs.Forms.{stageWidths, oldForm, newest, entryLength}
 use Rattle.model.specs.Layout.{AllBytes, noMills, unsigned, zeroed, fileOf, bytesOf}
 use Rattle.model.specs.Refusals.{refusalOf}
 use Rattle.model.specs.Answers.{Writing, readOf, writeOf, outcomeNumber, writtenNumbers}
 use Rattle.model.specs.Published.{word, above, Holds}
 use Rattle.model.specs.Promises.{IsForm3, WritesFile, WritesNone}
-use Rattle.model.proofs.FormsLaws.{stageWidths, oldFront, front}
+use Rattle.model.proofs.FormsLaws.{oldFront, front}
 use Rattle.model.proofs.WrittenLaws.{length-fileOf}
 use Rattle.model.proofs.RereadLaws.{numbered-length, new-first, new-number, new-reads}
 use Rattle.model.proofs.RereadLaws.{old-reads as fileOf-reads}
@@ -43,7 +43,7 @@ unfiled-none {n} {lent} e = subst (WritesNone n lent) e (record { numbers = refl
 
 -- the length of the file of a case
 abbrev pub fileLength : Case → ℕ
-fileLength c = front + width stagedWidths + 2 + 2 * c .rises + 2 * c .falls + 5 * c .hours
+fileLength c = front + entryLength (newest .1) 0 + 2 + 2 * c .rises + 2 * c .falls + 5 * c .hours
 
 pub length-bytesOf : (c : Case) → length (bytesOf c) ≡ fileLength c
 length-bytesOf c = length-fileOf c newest ∙ numbered-length c (newest .0) stageWidths

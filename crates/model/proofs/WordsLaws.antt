@@ -153,22 +153,24 @@ module _ (c : Case) (l : List ℕ) where
   pub stops : (k : ℕ) → (z c l k ≡ 1) ↔ Stops c l k
   stops k = (of-stop k, stop-of k)
 
--- ---- the hours since the latest mark, for marks that are 1 exactly at an event, from hour 1 on
-module _ (f : ℕ → ℕ) (event : ℕ → Type 0) (is : (k : ℕ) → (f k ≡ 1) ↔ event k) (le : (k : ℕ) → f k ≤ 1)
-    (zero-is : f 0 ≡ 0) (held m n : ℕ) where
+-- ---- the hours since the latest mark, from hour 1 on
+module _ (f : ℕ → ℕ) (le : (k : ℕ) → f k ≤ 1) (zero-is : f 0 ≡ 0) (held m n : ℕ) where
+  abbrev event : ℕ → Type 0
+  event k = f k ≡ 1
+
   unmarked : (k : ℕ) → (event k → ⊥) → f k ≡ 0
   unmarked k e = go (ℕ-discrete (f k) 0)
     where
       go : Dec (f k ≡ 0) → f k ≡ 0
       go (yes q) = q
-      go (no q) = absurd (e (is k .0 (omega (arith, le k))))
+      go (no q) = absurd (e (omega (arith, le k)))
 
   hours-latest : (k s : ℕ) → s ≤ k → event s → ((i : ℕ) → s < i → i ≤ k → event i → ⊥)
       → hoursSince held f n k ≡ n - s
-  hours-latest zero zero a e q = absurd (omega (arith, is 0 .1 e))
+  hours-latest zero zero a e q = absurd (omega (arith, zero-is))
   hours-latest zero (suc s) a e q = absurd (omega arith)
   hours-latest (suc k) s a e q = ⊎-elim
-      (λ (d : s ≡ suc k). hoursSince-mark held f n k (ap f (sym d) ∙ is s .1 e) ∙ ap (λ x. n - x) (sym d))
+      (λ (d : s ≡ suc k). hoursSince-mark held f n k (ap f (sym d) ∙ e) ∙ ap (λ x. n - x) (sym d))
       (λ (b : s < suc k).
       hoursSince-none held f n k (unmarked (suc k) (q (suc k) b (omega arith)))
       ∙ hours-latest k s (omega arith) e (λ i x w. q i x (omega arith)))
@@ -196,49 +198,42 @@ module _ (f : ℕ → ℕ) (event : ℕ → Type 0) (is : (k : ℕ) → (f k ≡
       omega (arith, hoursSince-zero held f n, r .never none)
     where
       none : (s : ℕ) → s < n → event s → ⊥
-      none zero b e = absurd (omega (arith, is 0 .1 e))
+      none zero b e = absurd (omega (arith, zero-is))
       none (suc s) b e = q (suc s) (omega arith) b e
   hours-of-rested (suc k) a q r = go (ℕ-discrete (f (suc k)) 0) (λ d. hours-of-rested k (omega arith) (quieter d) r)
     where
       -- no event at hour k + 1 either
       quieter : f (suc k) ≡ 0 → (i : ℕ) → k < i → i < n → event i → ⊥
       quieter d i x w e = ⊎-elim
-          (λ (g : suc k ≡ i). omega (arith, ap f g, is i .1 e)) (λ (g : suc k < i). q i g w e) (eq-or-lt-of-le x)
+          (λ (g : suc k ≡ i). omega (arith, ap f g)) (λ (g : suc k < i). q i g w e) (eq-or-lt-of-le x)
 
       go : Dec (f (suc k) ≡ 0) → (f (suc k) ≡ 0 → m ≤ hoursSince held f n k) → m ≤ hoursSince held f n (suc k)
       go (yes d) ih = omega (arith, hoursSince-none held f n k d, ih d)
       go (no d) ih =
           let mark : f (suc k) ≡ 1 = omega (arith, le (suc k)) in
-          let latest : Latest event n (suc k) = record { earlier = a; there = is (suc k) .0 mark; quiet = q } in
+          let latest : Latest event n (suc k) = record { earlier = a; there = mark; quiet = q } in
           omega (arith, hoursSince-mark held f n k mark, r .since (suc k) latest)
 
 -- ---- rules 21 and 22
-module _ (f : ℕ → ℕ) (le : (k : ℕ) → f k ≤ 1) (zero-is : f 0 ≡ 0) (held m k : ℕ) where
-  rested : m ≤ hoursSince held f (suc k) k → Rested (λ s. f s ≡ 1) held m (suc k)
-  rested = rested-of-hours f (λ s. f s ≡ 1) (λ s. (λ e. e, λ e. e)) le zero-is held m (suc k) k refl
-
-  of-rested : Rested (λ s. f s ≡ 1) held m (suc k) → m ≤ hoursSince held f (suc k) k
-  of-rested =
-      hours-of-rested f (λ s. f s ≡ 1) (λ s. (λ e. e, λ e. e)) le zero-is held m (suc k) k (omega arith)
-      (λ i a b. absurd (omega arith))
-
 module _ (c : Case) (l : List ℕ) (k : ℕ) where
   pub up-time : T (rule21 c l (suc k))
       ↔ (z c l (suc k) ≡ 1 → Rested (λ s. y c l s ≡ 1) (h c) (c .minup .0) (suc k))
   unfolding rule21
   up-time = (
-    λ t e. rested (y c l) (y-le c l) (y-zero c l) (h c) (c .minup .0) k
+    λ t e. rested-of-hours (y c l) (y-le c l) (y-zero c l) (h c) (c .minup .0) (suc k) k refl
         (time-of (z c l (suc k)) (c .minup .0) (hoursSince (h c) (y c l) (suc k) k) t e),
     λ f. of-time (z c l (suc k)) (c .minup .0) (hoursSince (h c) (y c l) (suc k) k) (z-le c l (suc k))
-        (λ e. of-rested (y c l) (y-le c l) (y-zero c l) (h c) (c .minup .0) k (f e)),
+        (λ e. hours-of-rested (y c l) (y-le c l) (y-zero c l) (h c) (c .minup .0) (suc k) k (omega arith)
+        (λ i a b. absurd (omega arith)) (f e)),
   )
 
   pub down-time : T (rule22 c l (suc k))
       ↔ (y c l (suc k) ≡ 1 → Rested (λ s. z c l s ≡ 1) (h c) (c .mindown .0) (suc k))
   unfolding rule22
   down-time = (
-    λ t e. rested (z c l) (z-le c l) (z-zero c l) (h c) (c .mindown .0) k
+    λ t e. rested-of-hours (z c l) (z-le c l) (z-zero c l) (h c) (c .mindown .0) (suc k) k refl
         (time-of (y c l (suc k)) (c .mindown .0) (hoursSince (h c) (z c l) (suc k) k) t e),
     λ f. of-time (y c l (suc k)) (c .mindown .0) (hoursSince (h c) (z c l) (suc k) k) (y-le c l (suc k))
-        (λ e. of-rested (z c l) (z-le c l) (z-zero c l) (h c) (c .mindown .0) k (f e)),
+        (λ e. hours-of-rested (z c l) (z-le c l) (z-zero c l) (h c) (c .mindown .0) (suc k) k (omega arith)
+        (λ i a b. absurd (omega arith)) (f e)),
   )

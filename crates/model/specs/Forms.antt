@@ -11,28 +11,31 @@ use Rattle.model.specs.Limits.{mostStages, mostHours}
 abbrev pub Form : Type 0
 Form = List (List ℕ)
 
--- the unit: capacity, minimum output, RU, RD, minimum up time, minimum down time, F, A, B, C, p(0), h; and with the
--- start-up stage and the shut-down stage
+-- the unit: capacity, minimum output, RU, RD, minimum up time, minimum down time, F, A, B, C, p(0), h; the start-up
+-- stage and the shut-down stage, which may follow; the form number, a section of its own
 abbrev pub unitWidths : List ℕ
 unitWidths = 2 ∷ 2 ∷ 2 ∷ 2 ∷ 2 ∷ 2 ∷ 4 ∷ 4 ∷ 4 ∷ 4 ∷ 2 ∷ 2 ∷ []
 
-abbrev pub stagedWidths : List ℕ
-stagedWidths = unitWidths ++ (1 ∷ 1 ∷ [])
+abbrev pub stageWidths : List ℕ
+stageWidths = 1 ∷ 1 ∷ []
 
--- a form whose unit and price have these widths, with what follows the hours: unit, start-up trajectory, shut-down
--- trajectory, hours (price and order)
+abbrev pub numberSection : Form
+numberSection = (2 ∷ []) ∷ []
+
+-- a form whose unit goes on with these widths, whose price has this one, and with what follows the hours: unit,
+-- start-up trajectory, shut-down trajectory, hours (price and order)
 abbrev pub formWith : List ℕ → ℕ → Form → Form
-formWith unit price more = unit ∷ (2 ∷ []) ∷ (2 ∷ []) ∷ (price ∷ 1 ∷ []) ∷ more
+formWith stages price more = (unitWidths ++ stages) ∷ (2 ∷ []) ∷ (2 ∷ []) ∷ (price ∷ 1 ∷ []) ∷ more
 
 -- the forms by their numbers: the old one, which does not hold its number, form 2, and the newest
 abbrev pub oldForm : ℕ × Form
-oldForm = (1, formWith unitWidths 2 [])
+oldForm = (1, formWith [] 2 [])
 
 abbrev pub form2 : ℕ × Form
-form2 = (2, formWith unitWidths 4 ((2 ∷ []) ∷ []))
+form2 = (2, formWith [] 4 numberSection)
 
 abbrev pub newest : ℕ × Form
-newest = (3, formWith stagedWidths 4 ((2 ∷ []) ∷ []))
+newest = (3, formWith stageWidths 4 numberSection)
 
 -- the forms that hold their number
 abbrev pub numbered : List (ℕ × Form)

@@ -12,7 +12,7 @@ use lib.ListN.{length, getD}
 use Rattle.laws.proofs.Tests.{either}
 use Rattle.model.specs.Limits.{mostStages, mostHours, longs}
 use Rattle.model.specs.Symbols.{every, before}
-use Rattle.model.specs.Forms.{mostEntries, entryLength}
+use Rattle.model.specs.Forms.{unitWidths, newest, mostEntries, width, entryLength}
 use Rattle.model.specs.Refusals.{within}
 use Rattle.model.proofs.LimitsLaws.{within-true, every-true}
 use Rattle.reader.specs.declared.forms.Form.{Form}
@@ -29,7 +29,7 @@ sections-five Old = omega arith
 sections-five Two = omega arith
 sections-five Three = omega arith
 
-pub unit-some : (f : Form) → 32 ≤ entryLength (tableOf f) 0
+pub unit-some : (f : Form) → width unitWidths ≤ entryLength (tableOf f) 0
 unit-some Old = omega arith
 unit-some Two = omega arith
 unit-some Three = omega arith
@@ -52,8 +52,11 @@ entry-form f i n h = go f i (let e : i ≡ 4 = omega (arith, sections-five f) in
     go Two i e h = rw e
     go Three i e h = rw e
 
--- an entry has bytes, few of them, and so do as many entries as there may be
-all-sizes : (f : Form) → every (λ i. within 1 34 (entryLength (tableOf f) (before i))) (length (tableOf f)) ≡ true
+-- an entry has bytes, no more than the newest form's unit, and so do as many entries as there may be
+abbrev longest : ℕ
+longest = entryLength (newest .1) 0
+
+all-sizes : (f : Form) → every (λ i. within 1 longest (entryLength (tableOf f) (before i))) (length (tableOf f)) ≡ true
 unfolding every
 all-sizes Old = refl
 all-sizes Two = refl
@@ -71,7 +74,8 @@ pub entry-sizes : (f : Form) (i : ℕ) → i < length (tableOf f)
     → (0 < entryLength (tableOf f) i) × (entryLength (tableOf f) i * getD mostEntries i 0 < longs)
 entry-sizes f i h =
     let n = entryLength (tableOf f) i in
-    let (some, few) = within-true 1 34 n (every-true _ (length (tableOf f)) (all-sizes f) (suc i) (omega arith) h) in
+    let within-sizes = every-true _ (length (tableOf f)) (all-sizes f) (suc i) (omega arith) h in
+    let (some, few) = within-true 1 longest n within-sizes in
     (some, omega (arith, mul-le-mul-left n (most-few i), mul-le-mul-right mostHours few))
 
 -- the bytes of an hour

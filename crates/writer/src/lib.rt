@@ -8,7 +8,7 @@ ghost use Prim.Native.Nat.{_+_, _*_, _≤_, _<_};
 ghost use lib.ListN.{length, getD};
 ghost use lib.Seq.{sets};
 ghost use Rattle.model.specs.Limits.{mostStages, words};
-ghost use Rattle.model.specs.Forms.{stagedWidths, newest, width, pairsLength};
+ghost use Rattle.model.specs.Forms.{newest, entryLength, pairsLength};
 ghost use Rattle.model.specs.Layout.{bytes, joined, noOutput, unsigned, fieldBytes, sectionBytes, pairBytes, bytesOf};
 ghost use Rattle.model.specs.Refusals.{refusalOf};
 use crate::numbers::put_mills;
@@ -88,7 +88,7 @@ fn put_pairs(case: Case, out: &mut [u8])
 
 // Writes the unit section.
 fn put_unit(case: Case, out: &mut [u8])
-    requires { ⌜ pairsLength (newest .1) + width stagedWidths ≤ length (now out) ⌝ }
+    requires { ⌜ pairsLength (newest .1) + entryLength (newest .1) 0 ≤ length (now out) ⌝ }
     ensures { λ _. ⌜ now (out .exit)
         ≡ sets (now (out .entry)) (pairsLength (newest .1)) (sectionBytes case newest 0) ⌝ }
 {

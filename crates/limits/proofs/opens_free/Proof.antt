@@ -1,9 +1,7 @@
 -- `limits::opens_free` meets its contract. The test is the definition's own. Assumes nothing.
-use mathlib.Core.Bool.{_&&_, _||_}
-use lib.Dec.{leb, eqb}
 use native.Mathlib.Omega.{arith}
-use Rattle.model.specs.Refusals.{opensFree}
 use Rattle.model.proofs.LimitsLaws.{counts}
+use Rattle.model.proofs.RefusalsLaws.{opensFree-at}
 use Rattle.limits.proofs.opens_free.Statement.{statement}
 use Rattle.limits.proofs.opens_free.Tie as tie
 
@@ -17,14 +15,9 @@ hours-of-requires c κs =
     omega arith
 
 returns : tie.Need-returns
-unfolding opensFree
 returns c =
     let hours = c .before .before .before .before in
-    let case = hours .before .before .args .case in
-    λ j. eqb (case .upstage) 0
-    && (eqb (case .downstage) 0
-    && (eqb (case .initial .0) 0
-    || hours .before .between .ensures j && leb (hours .hours-of .ensures j) (case .elapsed .0)))
+    opensFree-at (hours .before .before .args .case) _ (hours .hours-of .ensures) (hours .before .between .ensures)
 
 pub opens-free-spec : {M : Type 1} → statement M
 opens-free-spec = tie.close (tie.spec between-requires hours-of-requires returns)

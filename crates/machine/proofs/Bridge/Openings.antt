@@ -80,7 +80,6 @@ module _ (c : Case) where
 
     -- no list keeps the rules where the stop in which the day opens comes too early
     pub early-none : stopsEarly c ≡ true → (l : List ℕ) → T (keeps c l) → ⊥
-    unfolding stopsEarly
     early-none e l t =
         let (a, b) = both (ltb 0 (downStage c)) (ltb (h c + DD c) (c .minup .0 + downStage c)) e in
         let (n, late, r) = keeps-runs c l lim .0 t in
@@ -91,7 +90,6 @@ module _ (c : Case) where
         )
 
     pub late-of : stopsEarly c ≡ false → LateStop c
-    unfolding stopsEarly
     late-of e a =
         let kept = ap (λ t. t && ltb (h c + DD c) (c .minup .0 + downStage c)) (sym (lt-ltb 0 (downStage c) a)) ∙ e in
         ltb-false (h c + DD c) (c .minup .0 + downStage c) kept

@@ -8,7 +8,7 @@ use native.Mathlib.Omega.{arith}
 use lib.ListN.{length}
 use Rattle.model.specs.declared.Case.{Case}
 use Rattle.model.specs.declared.Mills.{Mills}
-use Rattle.model.specs.Layout.{Opening, remade}
+use Rattle.model.specs.Layout.{Opening, openingOf, remade}
 use Rattle.model.specs.Automaton.{St, off, up, run, down, Step, stay, start, start1, climb, reach, hold, leave}
 use Rattle.model.specs.Automaton.{leave1, sink, land, Runs, Final}
 
@@ -51,17 +51,11 @@ module _ (c : Case) (o : Opening) (prices : List Mills) (orders : List ℕ) (n :
   step-to q s t (sink i a b) = sink i a b
   step-to q s t (land i a b) = land i a b
 
-  pub step-from : (q : ℕ) (s t : St) → Step other q s t → Step c q s t
-  step-from q s t (stay d a) = stay d a
-  step-from q s t (start d a b e) = start d a b e
-  step-from q s t (start1 d a b e) = start1 d a b e
-  step-from q s t (climb i a b) = climb i a b
-  step-from q s t (reach i a b) = reach i a b
-  step-from q s t (hold r u a b e f) = hold r u a b e f
-  step-from q s t (leave r u a b e f) = leave r u a b e f
-  step-from q s t (leave1 r u a b e f) = leave1 r u a b e f
-  step-from q s t (sink i a b) = sink i a b
-  step-from q s t (land i a b) = land i a b
+-- and back: the record is one of the other's unit
+pub step-from : (c : Case) (o : Opening) (prices : List Mills) (orders : List ℕ) (n q : ℕ) (s t : St)
+    → Step (remade c o (c .rise) (c .fall) prices orders n) q s t → Step c q s t
+step-from c o prices orders n =
+    step-to (remade c o (c .rise) (c .fall) prices orders n) (openingOf c) (c .prices) (c .orders) (c .hours)
 
 -- a run on one record is a run on the other, where its hours are ordered alike
 module _ (U W : Case) (f : (q : ℕ) (s t : St) → Step U q s t → Step W q s t) (P : St → Type 0)

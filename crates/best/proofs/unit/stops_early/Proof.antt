@@ -1,7 +1,6 @@
 -- `best::unit::stops_early` meets its contract: the sums fit, and the tests are the definition's. Assumes nothing.
 use mathlib.Core.Path.{refl}
 use native.Mathlib.Omega.{arith}
-use Rattle.machine.specs.Cases.{stopsEarly}
 use Rattle.model.proofs.LimitsLaws.{Limits, limits-of-refusalOf}
 use Rattle.model.proofs.CapacityLaws.{stages-le}
 use Rattle.best.proofs.unit.stops_early.Statement.{statement}
@@ -28,7 +27,6 @@ add-t5-2 c =
     omega (arith, stages-le (s .args .case) (limits s) .1, limits s .falls-le, limits s .minup-le)
 
 returns : tie.Need-returns
-unfolding stopsEarly
 returns c = refl
 
 pub stops-early-spec : {M : Type 1} → statement M

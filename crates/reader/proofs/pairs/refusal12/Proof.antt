@@ -1,33 +1,15 @@
 -- `reader::pairs::refusal12` meets its contract, by the sections that the file has. Assumes nothing.
-use mathlib.Core.Path.{_≡_, refl, sym, ap, _∙_}
-use mathlib.Core.Bool.{Bool, true, false, not, _&&_}
+use mathlib.Core.Path.{_≡_, sym, ap, _∙_}
 use mathlib.Core.List.{List}
 use Prim.Native.Nat.{ℕ}
 use native.Mathlib.Omega.{arith}
-use lib.Dec.{eqb}
-use borrow.Author.Tests.{eq-eqb, ne-eqb}
-use Rattle.model.specs.Forms.{unknown}
-use Rattle.model.specs.Layout.{offsetAt, formNumberAt}
-use Rattle.model.specs.Refusals.{refusal12}
-use Rattle.model.proofs.FormsLaws.{oldFront, four-sections, known, four-old, more-late, length-numbered}
+use Rattle.model.specs.Forms.{numbered, unknown}
+use Rattle.model.specs.Layout.{offsetAt}
+use Rattle.model.proofs.FormsLaws.{oldFront, four-sections, known, four-old, more-late, length-numbered, unknown-is}
+use Rattle.model.proofs.RefusalsLaws.{refusal12-old, refusal12-late}
 use Rattle.model.proofs.AcceptedLaws.{linked}
 use Rattle.reader.proofs.pairs.refusal12.Statement.{statement}
 use Rattle.reader.proofs.pairs.refusal12.Tie as tie
-
-and-true : (t : Bool) → t ≡ t && true
-and-true true = refl
-and-true false = refl
-
-module _ (file : List ℕ) where
-  old-none : offsetAt file 0 ≡ oldFront → false ≡ refusal12 file
-  unfolding refusal12
-  old-none first = rw (eq-eqb (offsetAt file 0) oldFront first)
-
-  unknown-number : (offsetAt file 0 ≡ oldFront → ⊥) → (n : ℕ) → n ≡ formNumberAt file
-      → (not (eqb n 3) && not (eqb n 2)) ≡ refusal12 file
-  unfolding refusal12 unknown
-  unknown-number late n e =
-      rw (ne-eqb (offsetAt file 0) oldFront late, ← e) (ap (_&&_ (not (eqb n 3))) (and-true (not (eqb n 2))))
 
 sections-of-requires : tie.Need-sections-of-requires
 sections-of-requires c κs =
@@ -39,7 +21,7 @@ returns : tie.Need-returns
 returns c =
     let call = c .before in
     let file = call .before .before .args .file .now in
-    old-none file (four-old file (sym (call .sections-of .ensures) ∙ c .if1 .taken))
+    sym (refusal12-old file (four-old file (sym (call .sections-of .ensures) ∙ c .if1 .taken)))
 
 -- more sections than the old form has
 abbrev file : tie.Else1 → List ℕ
@@ -54,7 +36,10 @@ form-number-requires c κs = (c .before .before .before .pre, length-numbered (f
 returns-2 : tie.Need-returns-2
 returns-2 c =
     let here = c .before in
-    unknown-number (file here) (late here) (c .form-number .result) (c .form-number .ensures)
+    sym
+    (refusal12-late (file here) (late here)
+    ∙ ap (unknown numbered) (sym (c .form-number .ensures))
+    ∙ unknown-is (c .form-number .result))
 
 pub refusal12-spec : {M : Type 1} → statement M
 refusal12-spec = tie.close (tie.spec sections-of-requires returns form-number-requires returns-2)
