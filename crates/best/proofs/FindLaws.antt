@@ -9,10 +9,9 @@ use lib.ListN.{length, drop}
 use lib.Signed.{leZ}
 use Rattle.model.specs.declared.Case.{Case}
 use Rattle.model.specs.declared.Plan.the-variants.{Found as Planned, Refused}
-use Rattle.model.specs.Limits.{workLength}
 use Rattle.model.specs.Profit.{profitOf}
 use Rattle.model.specs.Best.{bestDay}
-use Rattle.model.specs.Refusals.{refusalOf}
+use Rattle.model.specs.Refusals.{workLength, refusalOf}
 use Rattle.model.specs.Answers.{cleared, planned}
 use Rattle.machine.specs.Coded.{missing, coded, Bounded, amount}
 use Rattle.machine.specs.Search.{maybe}
@@ -79,7 +78,7 @@ cleared-past n xs ys e = rw e
 
 -- the working numbers are zeroed, whether a list is found or not
 pub planned-work : (c : Case) (work : List ℤ) (ys : List ℕ) (r : Option (List ℕ))
-    → planned c work ys r .work ≡ cleared workLength work
+    → planned c work ys r .work ≡ cleared (workLength c) work
 unfolding planned
 planned-work c work ys none = refl
 planned-work c work ys (some l) = refl

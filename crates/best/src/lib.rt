@@ -14,14 +14,13 @@ use model::HalfMills;
 use model::Outcome;
 use model::Plan;
 use model::Reading;
-use model::WORK;
 ghost use mathlib.Core.Bool.{false};
 ghost use mathlib.Core.Path.{_≡_};
 ghost use Prim.Native.Nat.{_≤_};
 ghost use lib.ListN.{length, drop};
-ghost use Rattle.model.specs.Limits.{workLength};
+ghost use Rattle.model.specs.Limits.{shortWork, longWork};
 ghost use Rattle.model.specs.Best.{bestDay};
-ghost use Rattle.model.specs.Refusals.{refusalOf};
+ghost use Rattle.model.specs.Refusals.{workLength, refusalOf};
 ghost use Rattle.model.specs.Answers.{planned, scheduleOf};
 ghost use Rattle.machine.specs.Cases.{stopsEarly};
 ghost use Rattle.machine.specs.Moves.{dayOf};
@@ -29,31 +28,33 @@ ghost use Rattle.machine.specs.Fit.{Fit};
 ghost use Rattle.machine.specs.Proper.{Proper};
 ghost use Rattle.cells.specs.Table.{Day, Found};
 
-// The search in the first working numbers; those past them stay as they are.
+// The search in the first n working numbers; those past them stay as they are.
 fn search_first(
     u: Unit,
     charges: Charges,
     margins: &[i64],
     orders: &[u8],
     s: State,
+    n: usize,
     work: &mut [i64],
     outputs: &mut [u16],
 ) -> HalfMills
     requires { ⌜ Fit u ⌝ }
     requires { ⌜ Day u (now margins) (now orders) charges ⌝ }
-    requires { ⌜ (Proper u s) × (u .hours .0 ≤ length (now outputs)) × (workLength ≤ length (now work)) ⌝ }
+    requires { ⌜ (Proper u s) × (u .hours .0 ≤ length (now outputs)) ⌝ }
+    requires { ⌜ (shortWork ≤ n) × (n ≤ longWork) × (n ≤ length (now work)) ⌝ }
     ensures { λ r. ⌜ Found u (dayOf (now (margins .entry)) (now (orders .entry)) charges) s (now (outputs .entry))
         (now (outputs .exit)) (r .0) ⌝ }
-    ensures { λ _. ⌜ drop workLength (now (work .exit)) ≡ drop workLength (now (work .entry)) ⌝ }
+    ensures { λ _. ⌜ drop n (now (work .exit)) ≡ drop n (now (work .entry)) ⌝ }
 {
-    search::search(u, charges, margins, orders, s, &mut work[0..WORK], outputs)
+    search::search(u, charges, margins, orders, s, &mut work[..n], outputs)
 }
 
 // The best list from the opening of a case within the limits whose opening stop, if there is one, comes late enough, in
-// memory that is long enough: the working numbers are zeroed, and the list, if there is one, fills the first outputs.
-fn searched(case: Case, work: &mut [i64], outputs: &mut [u16]) -> Plan
+// memory that is long enough: the n working numbers are zeroed, and the list, if there is one, fills the first outputs.
+fn searched(case: Case, n: usize, work: &mut [i64], outputs: &mut [u16]) -> Plan
     requires { ⌜ (refusalOf case ≡ 0) × (stopsEarly case ≡ false) ⌝ }
-    requires { ⌜ (workLength ≤ length (now work)) × (case .hours ≤ length (now outputs)) ⌝ }
+    requires { ⌜ (n ≡ workLength case) × (n ≤ length (now work)) × (case .hours ≤ length (now outputs)) ⌝ }
     ensures answer { λ r. ⌜ r ≡ (planned case (now (work .entry)) (now (outputs .entry)) (bestDay case)) .answer ⌝ }
     ensures work { λ _. ⌜ now (work .exit)
         ≡ (planned case (now (work .entry)) (now (outputs .entry)) (bestDay case)) .work ⌝ }
@@ -68,8 +69,8 @@ fn searched(case: Case, work: &mut [i64], outputs: &mut [u16]) -> Plan
     let mut margins = [0i64; HOURS];
     unit::margins(prices, case.variable, case.hours, &mut margins);
     let orders = unit::orders(bytes, case.hours);
-    let worth = search_first(unit, charges, &margins, &orders, opening, work, outputs);
-    wipe::clear(work, WORK);
+    let worth = search_first(unit, charges, &margins, &orders, opening, n, work, outputs);
+    wipe::clear(work, n);
     if money::absent(worth) {
         return Plan::Refused(11);
     }
@@ -78,9 +79,9 @@ fn searched(case: Case, work: &mut [i64], outputs: &mut [u16]) -> Plan
 
 // The best list of a case within the limits, in memory that is long enough. A day that opens in a shut-down whose stop
 // comes too early has none.
-fn find(case: Case, work: &mut [i64], outputs: &mut [u16]) -> Plan
+fn find(case: Case, n: usize, work: &mut [i64], outputs: &mut [u16]) -> Plan
     requires { ⌜ refusalOf case ≡ 0 ⌝ }
-    requires { ⌜ (workLength ≤ length (now work)) × (case .hours ≤ length (now outputs)) ⌝ }
+    requires { ⌜ (n ≡ workLength case) × (n ≤ length (now work)) × (case .hours ≤ length (now outputs)) ⌝ }
     ensures answer { λ r. ⌜ r ≡ (planned case (now (work .entry)) (now (outputs .entry)) (bestDay case)) .answer ⌝ }
     ensures work { λ _. ⌜ now (work .exit)
         ≡ (planned case (now (work .entry)) (now (outputs .entry)) (bestDay case)) .work ⌝ }
@@ -88,10 +89,10 @@ fn find(case: Case, work: &mut [i64], outputs: &mut [u16]) -> Plan
         ≡ (planned case (now (work .entry)) (now (outputs .entry)) (bestDay case)) .outputs ⌝ }
 {
     if unit::stops_early(case) {
-        wipe::clear(work, WORK);
+        wipe::clear(work, n);
         return Plan::Refused(11);
     }
-    searched(case, work, outputs)
+    searched(case, n, work, outputs)
 }
 
 // The best list of the case of a reading. A refused reading is returned as it is, and the record of an accepted one is
@@ -113,11 +114,12 @@ pub fn schedule(reading: Reading, work: &mut [i64], outputs: &mut [u16]) -> Plan
     if refusal != 0 {
         return Plan::Refused(refusal);
     }
-    if work.len() < WORK {
+    let n = limits::work_of(case);
+    if work.len() < n {
         return Plan::Refused(10);
     }
     if outputs.len() < case.hours {
         return Plan::Refused(10);
     }
-    find(case, work, outputs)
+    find(case, n, work, outputs)
 }

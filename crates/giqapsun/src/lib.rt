@@ -11,6 +11,7 @@ use model::Verdict;
 use model::Written;
 ghost use mathlib.Core.Path.{_≡_};
 ghost use Rattle.model.specs.declared.Outcome.the-variants.{Accepted};
+ghost use Rattle.model.specs.Refusals.{workLength};
 ghost use Rattle.model.specs.Answers.{readOf, writeOf, checkOf, scheduleOf};
 ghost use Rattle.model.specs.Compared.{comparedOf};
 ghost use Rattle.model.specs.Calendar.{calendarOf};
@@ -153,7 +154,7 @@ fn as_read(case: Case) -> Reading
 
 // Reads a case file.
 #[no_mangle]
-pub extern "C" fn giqapsun_read_3(file: &[u8]) -> GiqapsunReading
+pub extern "C" fn giqapsun_read_4(file: &[u8]) -> GiqapsunReading
     ensures { λ r. ⌜ r ≡ readingOut (readOf (now (file .entry))) ⌝ }
 {
     reading_out(codec::read(file))
@@ -162,7 +163,7 @@ pub extern "C" fn giqapsun_read_3(file: &[u8]) -> GiqapsunReading
 // Writes the file of a record to the front of the lent bytes; those past it, and all of them on a refusal, stay as
 // they are.
 #[no_mangle]
-pub extern "C" fn giqapsun_write_3(case: Case, bytes: &mut [u8]) -> GiqapsunWritten
+pub extern "C" fn giqapsun_write_4(case: Case, bytes: &mut [u8]) -> GiqapsunWritten
     ensures answer { λ r. ⌜ r ≡ writtenOut ((writeOf case (now (bytes .entry))) .answer) ⌝ }
     ensures lent { λ _. ⌜ now (bytes .exit) ≡ (writeOf case (now (bytes .entry))) .lent ⌝ }
 {
@@ -171,7 +172,7 @@ pub extern "C" fn giqapsun_write_3(case: Case, bytes: &mut [u8]) -> GiqapsunWrit
 
 // The verdict of a list with a record.
 #[no_mangle]
-pub extern "C" fn giqapsun_check_3(case: Case, list: &[u16]) -> GiqapsunVerdict
+pub extern "C" fn giqapsun_check_4(case: Case, list: &[u16]) -> GiqapsunVerdict
     ensures { λ r. ⌜ r ≡ verdictOut (checkOf Accepted case (now (list .entry))) ⌝ }
 {
     verdict_out(rules::check(codec::admit(case), list))
@@ -179,16 +180,24 @@ pub extern "C" fn giqapsun_check_3(case: Case, list: &[u16]) -> GiqapsunVerdict
 
 // Which of two lists to offer with a record.
 #[no_mangle]
-pub extern "C" fn giqapsun_better_3(case: Case, first: &[u16], second: &[u16]) -> GiqapsunChoice
+pub extern "C" fn giqapsun_better_4(case: Case, first: &[u16], second: &[u16]) -> GiqapsunChoice
     ensures { λ r. ⌜ r ≡ choiceOut (comparedOf Accepted case (now (first .entry)) (now (second .entry))) ⌝ }
 {
     choice_out(offers::compare(codec::admit(case), first, second))
 }
 
+// How many numbers a search of a record is to be lent.
+#[no_mangle]
+pub extern "C" fn giqapsun_work_4(case: Case) -> usize
+    ensures { λ r. ⌜ r ≡ workLength case ⌝ }
+{
+    limits::work_of(case)
+}
+
 // The best list of a record, in the first outputs; the first working numbers are zeroed. Nothing is changed on 2 to 8,
 // 13 and 10.
 #[no_mangle]
-pub extern "C" fn giqapsun_best_3(case: Case, work: &mut [i64], outputs: &mut [u16]) -> GiqapsunPlan
+pub extern "C" fn giqapsun_best_4(case: Case, work: &mut [i64], outputs: &mut [u16]) -> GiqapsunPlan
     ensures answer { λ r. ⌜ r
         ≡ planOut ((scheduleOf Accepted case (now (work .entry)) (now (outputs .entry))) .answer) ⌝ }
     ensures work { λ _. ⌜ now (work .exit)
@@ -202,7 +211,7 @@ pub extern "C" fn giqapsun_best_3(case: Case, work: &mut [i64], outputs: &mut [u
 // The best list of a record on the day that a calendar orders: the on-line and the off-line windows, and the day's
 // first hour and number of hours. Nothing is changed on 14, 15, 2 to 8, 13 and 10.
 #[no_mangle]
-pub extern "C" fn giqapsun_best_by_calendar_3(
+pub extern "C" fn giqapsun_best_by_calendar_4(
     case: Case,
     on: &[u16],
     off: &[u16],

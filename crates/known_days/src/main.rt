@@ -1,8 +1,8 @@
 // The days whose answers are known from outside: the twelve of the scope on its small unit, pairs of lists, prices
 // below zero and far above it and days of a calendar on that unit, days that open and close inside a sequence on a
-// unit with longer trajectories, and the days of the source, whose case is read from standard input in the old form
-// and written in form 3. Prints one line for each: what was asked, and the answer
-// of best::schedule, of rules::check, of offers::compare with the part of offers::better, of
+// unit with longer trajectories, minimum times of up to 24 hours, and the days of the source, up to a week, whose case is
+// read from standard input in the old form and written in form 3. Prints one line for each: what was asked, and the
+// answer of best::schedule, of rules::check, of offers::compare with the part of offers::better, of
 // calendar::schedule_by_calendar, or of codec::write.
 use libc::STDIN_FILENO;
 use libc::STDOUT_FILENO;
@@ -13,6 +13,7 @@ use model::HOUR_BYTES;
 use model::HOURS;
 use model::HalfMills;
 use model::Hour;
+use model::LONG_WORK;
 use model::MOST_PRICE;
 use model::Mills;
 use model::OLD_HOUR_BYTES;
@@ -24,11 +25,11 @@ use model::PAIR_BYTES;
 use model::Plan;
 use model::Reading;
 use model::SECTIONS;
+use model::SHORT_WORK;
 use model::STAGE_BYTES;
 use model::STAGES;
 use model::UNIT_BYTES;
 use model::Verdict;
-use model::WORK;
 use model::Written;
 
 // The hours of the source's day, and the bytes of its trajectories, which have six outputs; the bytes of its case in
@@ -94,18 +95,23 @@ fn print_plan(name: &[u8], plan: Plan, case: Case, outputs: &[u16]) {
     io::write_all(STDOUT_FILENO, b"\n");
 }
 
-// The best list.
-fn print_best(name: &[u8], reading: Reading) {
-    let mut work = [0i64; WORK];
+// The best list in lent numbers.
+fn print_lent(name: &[u8], reading: Reading, work: &mut [i64]) {
     let mut outputs = [0u16; HOURS];
     let case = reading.case;
-    let plan = best::schedule(reading, &mut work, &mut outputs);
+    let plan = best::schedule(reading, work, &mut outputs);
     print_plan(name, plan, case, &outputs);
+}
+
+// The best list.
+fn print_best(name: &[u8], reading: Reading) {
+    let mut work = [0i64; SHORT_WORK];
+    print_lent(name, reading, &mut work);
 }
 
 // The best list on a day of the year, by its on-line and off-line windows.
 fn print_day(name: &[u8], reading: Reading, on: &[u16], off: &[u16], first: Hour, hours: Hour) {
-    let mut work = [0i64; WORK];
+    let mut work = [0i64; SHORT_WORK];
     let mut outputs = [0u16; HOURS];
     let case = reading.case;
     let plan = calendar::schedule_by_calendar(
@@ -502,16 +508,16 @@ fn print_edges() {
     print_open(b"day of 22 hours", quiet(Hour(22), 0), Hour(100), Hour(22));
 }
 
-// The prices of two days that are alike.
-fn twice(prices: [Mills; HOURS]) -> [Mills; HOURS] {
-    let mut both = prices;
-    let mut k = 0;
-    while k < DAY {
-        let price = prices[k];
-        both[k + DAY] = price;
+// The prices of days that are alike: those of the first again and again.
+fn repeated(prices: [Mills; HOURS]) -> [Mills; HOURS] {
+    let mut all = prices;
+    let mut k = DAY;
+    while k < HOURS {
+        let price = all[k - DAY];
+        all[k] = price;
         k += 1;
     }
-    both
+    all
 }
 
 // The source's case written, and read again in form 3; a form that has another unit, and one that there is not.
@@ -674,16 +680,71 @@ fn print_shared() {
     );
 }
 
-// The source's day, and its day twice.
+// The source's day, and the days of its Table V: the same prices for 48, 96 and 168 hours; and an hour more.
 fn print_source(file: &[u8]) {
     let reading = codec::read(file);
     let mut case = reading.case;
     print_best(b"source", reading);
     let prices = case.prices;
-    let both = twice(prices);
-    case.prices = both;
+    let all = repeated(prices);
+    case.prices = all;
     case.hours = 2 * DAY;
-    print_best(b"source twice", codec::admit(case));
+    print_best(b"source, 48 hours", codec::admit(case));
+    case.hours = 4 * DAY;
+    print_best(b"source, 96 hours", codec::admit(case));
+    case.hours = 7 * DAY;
+    print_best(b"source, 168 hours", codec::admit(case));
+    case.hours = 7 * DAY + 1;
+    print_best(b"source, 169 hours", codec::admit(case));
+}
+
+// The small unit on-line for so many hours, with these minimum times and prices that pay for none: it stops as soon as it
+// may.
+fn held(elapsed: Hour, minup: Hour, mindown: Hour, hours: Hour) -> Reading {
+    let reading = small(Output(2), elapsed, Hour(1), hours, Mills(0), [0u8; HOURS]);
+    let mut case = reading.case;
+    case.minup = minup;
+    case.mindown = mindown;
+    codec::admit(case)
+}
+
+// The best list in as many numbers as a minimum time above 8 asks for, and in one fewer.
+fn print_long(name: &[u8], reading: Reading) {
+    let mut work = [0i64; LONG_WORK];
+    print_lent(name, reading, &mut work);
+}
+
+fn print_fewer(name: &[u8], reading: Reading) {
+    let mut work = [0i64; LONG_WORK - 1];
+    print_lent(name, reading, &mut work);
+}
+
+// Minimum times from 8 to 25.
+fn print_times() {
+    let up = held(Hour(2), Hour(9), Hour(1), Hour(9));
+    let down = held(Hour(2), Hour(1), Hour(9), Hour(3));
+    print_best(b"minimum times 8", held(Hour(2), Hour(8), Hour(8), Hour(9)));
+    print_best(b"minimum up time 9, 8192 numbers", up);
+    print_best(b"minimum down time 9, 8192 numbers", down);
+    print_fewer(b"minimum up time 9, 32767 numbers", up);
+    print_long(b"minimum up time 9", up);
+    print_long(b"minimum down time 9", down);
+    print_long(
+        b"minimum up time 20",
+        held(Hour(2), Hour(20), Hour(1), Hour(21)),
+    );
+    print_long(
+        b"minimum times 24",
+        held(Hour(2), Hour(24), Hour(24), Hour(26)),
+    );
+    print_long(
+        b"minimum up time 25",
+        held(Hour(2), Hour(25), Hour(1), Hour(26)),
+    );
+    print_long(
+        b"minimum down time 25",
+        held(Hour(2), Hour(1), Hour(25), Hour(26)),
+    );
 }
 
 // Lists of the source's day: the one that the source prints, and an output that is held.
@@ -738,6 +799,7 @@ fn main() {
     print_stages();
     print_closings();
     print_shared();
+    print_times();
     let mut file = [0u8; SOURCE + 1];
     let n = io::read_full(STDIN_FILENO, &mut file);
     print_source(&file[..n]);

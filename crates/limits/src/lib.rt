@@ -1,5 +1,5 @@
-// The refusals of a record, 2 to 8 and 13: one test for each number, and the first that applies (model's
-// specs/Refusals).
+// The refusals of a record, 2 to 8 and 13: one test for each number, and the first that applies; and how many numbers its
+// search works in (model's specs/Refusals).
 ghost use mathlib.Core.Bool.{false, cond};
 ghost use mathlib.Core.Path.{_≡_};
 ghost use Prim.Native.Nat.{suc, _≤_, _<_};
@@ -8,11 +8,13 @@ ghost use lib.IntN.{pos, negℤ};
 ghost use Rattle.model.specs.Limits.{words, mostStages, mostHours, mostPrice, mostOrder};
 ghost use Rattle.model.specs.Symbols.{every, stage, hourly, priced};
 ghost use Rattle.model.specs.Refusals.{within, amounts, refusal2, refusal3, refusal4, refusal5, refusal6, refusal7};
-ghost use Rattle.model.specs.Refusals.{refusal8, refusal13, climbs, descends, opensFree, opensUp, opensDown, refusalOf};
+ghost use Rattle.model.specs.Refusals.{refusal8, refusal13, climbs, descends, opensFree, opensUp, opensDown};
+ghost use Rattle.model.specs.Refusals.{workLength, refusalOf};
 ghost use Rattle.limits.specs.Steps.{stepped};
 use model::Case;
 use model::HOURS;
 use model::Hour;
+use model::LONG_WORK;
 use model::MOST_CHARGE;
 use model::MOST_ELAPSED;
 use model::MOST_ORDER;
@@ -22,6 +24,8 @@ use model::MOST_TIME;
 use model::MOST_VARIABLE;
 use model::Mills;
 use model::Output;
+use model::SHORT_TIME;
+use model::SHORT_WORK;
 use model::STAGES;
 
 // Whether a count is from 1 to `most`.
@@ -252,6 +256,19 @@ fn refusal13(case: Case) -> bool
 {
     let prices = case.prices;
     !bounded(prices, case.hours)
+}
+
+// How many numbers a search of a record works in.
+pub fn work_of(case: Case) -> usize
+    ensures { λ r. ⌜ r ≡ workLength case ⌝ }
+{
+    if SHORT_TIME < case.minup.0 {
+        return LONG_WORK;
+    }
+    if SHORT_TIME < case.mindown.0 {
+        return LONG_WORK;
+    }
+    SHORT_WORK
 }
 
 // The number where its test applies, and else what the tests after it give.

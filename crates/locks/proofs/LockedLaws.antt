@@ -12,13 +12,13 @@ use lib.ListN.{length, getD}
 use lib.IntN.{ℤ, pos}
 use Rattle.laws.specs.Placed.{Part}
 use Rattle.model.specs.Limits.{mostTime}
-use Rattle.machine.specs.Lengths.{rowLength, keptLength}
+use Rattle.machine.specs.Lengths.{placeLength, keptLength}
 use Rattle.machine.specs.declared.Unit.{Unit}
 use Rattle.machine.specs.declared.Terms.{Terms}
 use Rattle.machine.specs.declared.State.{State}
 use Rattle.machine.specs.declared.State.the-variants.{Off, Rise, Run, Fall}
 use Rattle.machine.specs.Proper.{Proper}
-use Rattle.machine.specs.Moves.{worth}
+use Rattle.machine.specs.Moves.{worth, Worths}
 use Rattle.cells.specs.Table.{Row, lockOf, cellsOf}
 use Rattle.rows.proofs.Ends.{row-to, row-over, row-at}
 use Rattle.slots.specs.Saved.{RowAt}
@@ -30,6 +30,9 @@ lock-small u (Off d) p = omega arith
 lock-small u (Rise i) p = omega arith
 lock-small u (Run r j) p = p .2
 lock-small u (Fall i) p = omega arith
+
+pub row-few : {u : Unit} {w : Worths} {j m n : ℕ} {xs : List ℤ} → m ≡ n → Row u w j m xs → Row u w j n xs
+row-few {u} {w} {j} {m} {n} {xs} e r = subst (λ i. Row u w j i xs) e r
 
 module _ (u : Unit) (day : ℕ → Terms) where
   -- where a lock ends there are no hours to go, or any where the day ends
@@ -43,25 +46,25 @@ module _ (u : Unit) (day : ℕ → Terms) where
           row-at u day (sym x) refl (row-over u day 0 j (row-at u day x refl r))
       go false l = row-to (omega (arith, leb-false (u .hours .0) b l)) r
 
-  pub locked-start : (b : ℕ) {xs : List ℤ} → length xs ≡ keptLength → Locked u day b b xs
-  locked-start b e = record { long = e; at = λ h j a l d. absurd (omega arith) }
+  pub locked-start : (c b : ℕ) {xs : List ℤ} → length xs ≡ keptLength → Locked u day c c b xs
+  locked-start c b e = record { long = e; at = λ h j a l d. absurd (omega arith) }
 
-  pub locked-from : {a b : ℕ} (c : ℕ) {xs : List ℤ} → a ≤ c → Locked u day a b xs → Locked u day c b xs
-  locked-from c h r = record { long = r .long; at = λ k j a l d. r .at k j (omega arith) l d }
+  pub locked-from : {a c b : ℕ} (k : ℕ) {xs : List ℤ} → a ≤ k → Locked u day a c b xs → Locked u day k c b xs
+  locked-from k h r = record { long = r .long; at = λ m j a l d. r .at m j (omega arith) l d }
 
-  pub locked-step : (h b : ℕ) {row xs ys : List ℤ} → h < b → cellsOf u ≤ rowLength
+  pub locked-step : (h c b : ℕ) {row xs ys : List ℤ} → h < c → cellsOf u ≤ placeLength
       → ((j : ℕ) → b ≡ lockEnd u h j → Row u (worth u day h) j (cellsOf u) row)
-      → Part (pos 0) xs ys ((b - h - 1) * rowLength) 0 (cellsOf u) (λ i. getD row i (pos 0))
-      → Locked u day (suc h) b xs → Locked u day h b ys
-  locked-step h b {row} {xs} {ys} below few made p s =
+      → Part (pos 0) xs ys ((c - h - 1) * placeLength) 0 (cellsOf u) (λ i. getD row i (pos 0))
+      → Locked u day (suc h) c b xs → Locked u day h c b ys
+  locked-step h c b {row} {xs} {ys} below few made p s =
       record { long = p .long ∙ s .long; at = λ k j a l e. go k j l e (eq-or-lt-of-le a) }
     where
-      go : (k j : ℕ) → k < b → b ≡ lockEnd u k j → (h ≡ k) ⊎ (h < k)
-          → RowAt u (worth u day k) j ((b - k - 1) * rowLength) ys
+      go : (k j : ℕ) → k < c → b ≡ lockEnd u k j → (h ≡ k) ⊎ (h < k)
+          → RowAt u (worth u day k) j ((c - k - 1) * placeLength) ys
       go k j l e (inl q) =
-          subst (λ m. RowAt u (worth u day m) j ((b - m - 1) * rowLength) ys) q
+          subst (λ m. RowAt u (worth u day m) j ((c - m - 1) * placeLength) ys) q
           (record { at = λ i d. p .done i (omega arith) d ∙ made j (rw (← q) at e) .at i d })
       go k j l e (inr q) =
           record {
-            at = λ i d. p .other ((b - k - 1) * rowLength + i) (λ m x y z. omega arith) ∙ s .at k j q l e .at i d;
+            at = λ i d. p .other ((c - k - 1) * placeLength + i) (λ m x y z. omega arith) ∙ s .at k j q l e .at i d;
           }

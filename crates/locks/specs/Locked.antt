@@ -4,7 +4,7 @@ use mathlib.Core.List.{List}
 use Prim.Native.Nat.{ℕ, _+_, _-_, _*_, _≤_, _<_, min}
 use lib.ListN.{length}
 use lib.IntN.{ℤ}
-use Rattle.machine.specs.Lengths.{rowLength, keptLength}
+use Rattle.machine.specs.Lengths.{placeLength, keptLength}
 use Rattle.machine.specs.declared.Unit.{Unit}
 use Rattle.machine.specs.declared.Terms.{Terms}
 use Rattle.machine.specs.Moves.{worth}
@@ -14,7 +14,8 @@ use Rattle.slots.specs.Saved.{RowAt}
 abbrev pub lockEnd : Unit → ℕ → ℕ → ℕ
 lockEnd u k j = min (k + j) (u .hours .0)
 
--- the rows of a lock that ends at hour b, from hour a on: that of an hour before b in the place that its distance gives
-pub record Locked (u : Unit) (day : ℕ → Terms) (a b : ℕ) (xs : List ℤ) : Type 0 where
+-- the rows of a lock that ends at hour b, of the hours from a to before c: each in the place that its distance from c
+-- gives
+pub record Locked (u : Unit) (day : ℕ → Terms) (a c b : ℕ) (xs : List ℤ) : Type 0 where
   pub long : length xs ≡ keptLength
-  pub at : (h j : ℕ) → a ≤ h → h < b → b ≡ lockEnd u h j → RowAt u (worth u day h) j ((b - h - 1) * rowLength) xs
+  pub at : (h j : ℕ) → a ≤ h → h < c → b ≡ lockEnd u h j → RowAt u (worth u day h) j ((c - h - 1) * placeLength) xs

@@ -11,24 +11,18 @@ use Rattle.machine.specs.declared.Unit.{Unit}
 use Rattle.machine.specs.declared.Terms.{Terms}
 use Rattle.machine.specs.Moves.{worth, Worths}
 use Rattle.machine.specs.Fit.{Fit, Fair}
-use Rattle.cells.specs.Table.{Sized, Row, SideCell, Layer, Ahead, cellsOf}
+use Rattle.cells.specs.Table.{Sized, Row, Side, SideCell, Ahead, cellsOf}
 use Rattle.rows.proofs.Ends.{row-to, sized-at}
 use Rattle.slots.specs.Saved.{RowAt, SavedAt}
 use Rattle.slots.proofs.Slots.{cells-side}
-use Rattle.locks.specs.Locked.{lockEnd}
-use Rattle.locks.proofs.LockedLaws.{lock-start}
 
-module _ (u : Unit) (day : ℕ → Terms) where
-  -- the layer after the hour, where no lock goes beyond it
-  pub ahead-again : Fit u → ((k : ℕ) → Fair (day k)) → (k j : ℕ) {xs ys : List ℤ} → k < u .hours .0
-      → lockEnd u (suc k) (j - 1) ≤ suc k → Layer u (worth u day (suc k)) xs ys
-      → Ahead u (worth u day (suc k)) j xs ys
-  ahead-again fit fair k j h e l =
-      let sized = sized-at u day fit fair (suc k) in
-      record {
-        across = record { sized = sized; row = lock-start u day (suc k) (j - 1) (omega arith) (l .row) };
-        beside = λ few. record { sized = sized; side = l .side };
-      }
+-- the end of the day
+pub ahead-end : (u : Unit) (day : ℕ → Terms) → Fit u → ((k : ℕ) → Fair (day k)) → (j : ℕ) {xs ys : List ℤ}
+    → Row u (worth u day (u .hours .0)) (j - 1) (cellsOf u) xs → Side u (worth u day (u .hours .0)) ys
+    → Ahead u (worth u day (u .hours .0)) j xs ys
+ahead-end u day fit fair j row side =
+    let sized = sized-at u day fit fair (u .hours .0) in
+    record { across = record { sized = sized; row = row }; beside = λ few. record { sized = sized; side = side } }
 
 module _ (u : Unit) (w : Worths) (sized : Sized w) (off : ℕ) (xs : List ℤ) where
   -- a part that begins at off

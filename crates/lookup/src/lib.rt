@@ -1,11 +1,12 @@
-// The choice of an hour, from what the states after it are worth: looked up in the layer's slot or in a kept row of the
-// lock, or made again from the next layer that is kept. The definitions are those of machine's specs/Moves, cells'
-// specs/Table, slots' specs/Saved and locks' specs/Locked. Each function is called by crates of this repository, which
+// The choice of an hour, from what the states after it are worth: looked up in the layer's slot, or in the layer or the
+// row of the lock that is kept. The definitions are those of machine's specs/Moves, cells' specs/Table, slots'
+// specs/Saved, locks' specs/Locked and kept's specs/Held. Each function is called by crates of this repository, which
 // keep what it asks for.
 use cells::Pick;
 use machine::Charges;
 use machine::ENTRIES;
 use machine::KEPT;
+use machine::PLACE;
 use machine::ROW;
 use machine::SIDE;
 use machine::State;
@@ -14,7 +15,7 @@ use machine::Unit;
 use model::HalfMills;
 use model::Hour;
 ghost use mathlib.Core.Path.{_≡_};
-ghost use Prim.Native.Nat.{suc, _+_, _-_, _≤_, _<_};
+ghost use Prim.Native.Nat.{ℕ, _+_, _-_, _≤_, _<_};
 ghost use lib.ListN.{length};
 ghost use Rattle.machine.specs.Search.{choiceAt};
 ghost use Rattle.machine.specs.Moves.{dayOf, machine, worth, chosen, Worths};
@@ -22,9 +23,10 @@ ghost use Rattle.machine.specs.Fit.{Fit, Fair};
 ghost use Rattle.machine.specs.Proper.{Proper};
 ghost use Rattle.cells.specs.Picks.{pickOf};
 ghost use Rattle.cells.specs.Table.{Sized, Ahead, Entries, Day, entry, lockOf, cellsOf};
-ghost use Rattle.machine.specs.Lengths.{sideLength};
+ghost use Rattle.machine.specs.Lengths.{sideLength, mostPlaces, keptLength};
 ghost use Rattle.slots.specs.Saved.{RowAt, SavedAt, Slotted, Saved};
-ghost use Rattle.locks.specs.Locked.{Locked, lockEnd};
+ghost use Rattle.locks.specs.Locked.{lockEnd};
+ghost use Rattle.kept.specs.Held.{Free, Ready};
 
 // From the layer at `off`, where no lock is looked at.
 pub fn from_slot(u: Unit, t: Terms, s: State, off: usize, work: &[i64], e: HalfMills) -> Pick
@@ -73,87 +75,57 @@ pub fn from_layer(
     choices::choose(u, t, s, row, side, e)
 }
 
-// From the layer after hour k, made again, where no lock goes beyond it.
-pub fn from_again(
-    u: Unit,
-    charges: Charges,
-    margins: &[i64],
-    orders: &[u8],
-    t: Terms,
-    k: Hour,
-    s: State,
-    l: Hour,
-    n: usize,
-    entries: &[i64; ENTRIES],
-    work: &[i64],
-    e: HalfMills,
-) -> Pick
+// From the end of the day.
+pub fn from_end(u: Unit, t: Terms, s: State, e: HalfMills) -> Pick
     requires { ⌜ Fit u ⌝ }
-    requires { ⌜ Day u (now margins) (now orders) charges ⌝ }
-    requires { ⌜ (Fair t) × (Proper u s) × (k .0 < u .hours .0) × (Slotted u (l .0) n) ⌝ }
-    requires { ⌜ (lockEnd u (suc (k .0)) (lockOf s - 1) ≤ suc (k .0))
-        × (e .0 ≡ entry u (worth u (dayOf (now margins) (now orders) charges) (suc (k .0)))) ⌝ }
-    requires { ⌜ (Entries u (dayOf (now margins) (now orders) charges) 0 (now entries))
-        × (Saved u (dayOf (now margins) (now orders) charges) (l .0) n 0 (now work)) ⌝ }
-    ensures { λ r. ⌜ r ≡ pickOf (chosen u t (worth u (dayOf (now (margins .entry)) (now (orders .entry)) charges)
-        (suc (k .0))) s) ⌝ }
+    requires { ⌜ (Fair t) × (Proper u s) ⌝ }
+    requires { ⌜ ((day : ℕ → Terms) × ((i : ℕ) → Fair (day i)) × (e .0 ≡ entry u (worth u day (u .hours .0)))) ⌝ }
+    ensures { λ r. ⌜ ((day : ℕ → Terms) → ((i : ℕ) → Fair (day i)) → e .0 ≡ entry u (worth u day (u .hours .0))
+        → r ≡ pickOf (chosen u t (worth u day (u .hours .0)) s)) ⌝ }
 {
     let mut row = [0i64; ROW];
     let mut side = [0i64; SIDE];
-    let after = k.next();
-    slots::layer_at(
-        u,
-        charges,
-        margins,
-        orders,
-        after,
-        l,
-        n,
-        entries,
-        work,
-        &mut row,
-        &mut side,
-    );
+    rows::end_row(u, &mut row);
+    sides::end_side(u, &mut side);
     from_layer(u, t, s, &row, &side, e)
 }
 
-// From the layer after hour k, looked up in its slot or made again, where no lock goes beyond it.
+// From the layer of hour k, in its slot or among those that are kept, or from the end of the day, where no lock goes
+// beyond the hour; what is kept ends before hour `to`.
 pub fn from_after(
     u: Unit,
-    charges: Charges,
-    margins: &[i64],
-    orders: &[u8],
     t: Terms,
     k: Hour,
     s: State,
+    to: Hour,
     l: Hour,
     n: usize,
-    entries: &[i64; ENTRIES],
     work: &[i64],
+    kept: &[i64; KEPT],
     e: HalfMills,
 ) -> Pick
     requires { ⌜ Fit u ⌝ }
-    requires { ⌜ Day u (now margins) (now orders) charges ⌝ }
-    requires { ⌜ (Fair t) × (Proper u s) × (k .0 < u .hours .0) × (Slotted u (l .0) n) ⌝ }
-    requires { ⌜ (lockEnd u (suc (k .0)) (lockOf s - 1) ≤ suc (k .0))
-        × (e .0 ≡ entry u (worth u (dayOf (now margins) (now orders) charges) (suc (k .0)))) ⌝ }
-    requires { ⌜ (Entries u (dayOf (now margins) (now orders) charges) 0 (now entries))
-        × (Saved u (dayOf (now margins) (now orders) charges) (l .0) n 0 (now work)) ⌝ }
-    ensures { λ r. ⌜ r ≡ pickOf (chosen u t (worth u (dayOf (now (margins .entry)) (now (orders .entry)) charges)
-        (suc (k .0))) s) ⌝ }
+    requires { ⌜ (Fair t) × (Proper u s) × (k .0 ≤ u .hours .0) × (lockEnd u (k .0) (lockOf s - 1) ≤ k .0) ⌝ }
+    requires { ⌜ (Slotted u (l .0) n (length (now work))) × (length (now kept) ≡ keptLength)
+        × (to .0 ≤ k .0 + mostPlaces) ⌝ }
+    requires { ⌜ ((day : ℕ → Terms) × ((i : ℕ) → Fair (day i)) × Saved u day (l .0) n 0 (now work)
+        × Free u day (l .0) (k .0) (to .0) (now kept) × (e .0 ≡ entry u (worth u day (k .0)))) ⌝ }
+    ensures { λ r. ⌜ ((day : ℕ → Terms) → ((i : ℕ) → Fair (day i)) → Saved u day (l .0) n 0 (now (work .entry))
+        → Free u day (l .0) (k .0) (to .0) (now (kept .entry)) → e .0 ≡ entry u (worth u day (k .0))
+        → r ≡ pickOf (chosen u t (worth u day (k .0)) s)) ⌝ }
 {
-    let after = k.next();
-    let slot = slots::slot_from(after, l);
-    if after.0 < u.hours.0 {
-        if slot.hour.0 == after.0 {
+    if k.0 < u.hours.0 {
+        let slot = slots::slot_from(k, l);
+        if slot.hour.0 == k.0 {
             return from_slot(u, t, s, slot.number * n, work, e);
         }
+        let at = (to.0 - k.0 - 1) as usize;
+        return from_slot(u, t, s, at * PLACE, kept, e);
     }
-    from_again(u, charges, margins, orders, t, k, s, l, n, entries, work, e)
+    from_end(u, t, s, e)
 }
 
-// The choice of hour k in any state; the kept rows are those of a lock that ends at `until`, which is that of the state
-// if it has one.
+// The choice of hour k in any state; what is kept is what it looks at, and ends before hour `to`.
 pub fn choose(
     u: Unit,
     charges: Charges,
@@ -161,7 +133,7 @@ pub fn choose(
     orders: &[u8],
     k: Hour,
     s: State,
-    until: Hour,
+    to: Hour,
     l: Hour,
     n: usize,
     entries: &[i64; ENTRIES],
@@ -170,12 +142,10 @@ pub fn choose(
 ) -> Pick
     requires { ⌜ Fit u ⌝ }
     requires { ⌜ Day u (now margins) (now orders) charges ⌝ }
-    requires { ⌜ (k .0 < u .hours .0) × (Slotted u (l .0) n) × (Proper u s) ⌝ }
+    requires { ⌜ (k .0 < u .hours .0) × (Slotted u (l .0) n (length (now work))) × (Proper u s) ⌝ }
     requires { ⌜ (Entries u (dayOf (now margins) (now orders) charges) 0 (now entries))
         × (Saved u (dayOf (now margins) (now orders) charges) (l .0) n 0 (now work)) ⌝ }
-    requires { ⌜ (Locked u (dayOf (now margins) (now orders) charges) (suc (k .0)) (until .0) (now kept))
-        × (suc (k .0) < lockEnd u (suc (k .0)) (lockOf s - 1)
-        → until .0 ≡ lockEnd u (suc (k .0)) (lockOf s - 1)) ⌝ }
+    requires { ⌜ Ready u (dayOf (now margins) (now orders) charges) (l .0) (k .0) (lockOf s) (to .0) (now kept) ⌝ }
     ensures { λ r. ⌜ r ≡ pickOf (choiceAt (machine u (dayOf (now (margins .entry)) (now (orders .entry)) charges))
         (k .0) s) ⌝ }
 {
@@ -184,8 +154,8 @@ pub fn choose(
     let t = cells::terms_at(margins, orders, charges, k);
     let b = locks::end_of(u, k, s);
     if after.0 < b.0 {
-        let at = (b.0 - after.0 - 1) as usize;
-        return from_row(u, t, s, at * ROW, kept, e);
+        let at = (to.0 - after.0 - 1) as usize;
+        return from_row(u, t, s, at * PLACE, kept, e);
     }
-    from_after(u, charges, margins, orders, t, k, s, l, n, entries, work, e)
+    from_after(u, t, after, s, to, l, n, work, kept, e)
 }

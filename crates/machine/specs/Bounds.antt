@@ -1,11 +1,7 @@
--- How large the numbers of a search and of a profit can get, each with what it bounds: for every price from its least
--- to its most, and for days of up to a week. Definitions only. Assumes nothing.
+-- How large the numbers of a search and of a profit can get, each with what it bounds. Definitions only. Assumes
+-- nothing.
 use Prim.Native.Nat.{ℕ, _+_, _*_, _^_}
-use Rattle.model.specs.Limits.{mostOutput, mostVariable, mostCharge, mostPrice, words}
-
--- hours: the longest day that the bounds are made for, a week
-abbrev pub longest : ℕ
-longest = 168
+use Rattle.model.specs.Limits.{mostHours, mostOutput, mostVariable, mostCharge, mostPrice, words}
 
 -- megawatts: the outputs at the two ends of an hour together, the first being at most a ramp above the second
 abbrev pub mostEnds : ℕ
@@ -23,7 +19,7 @@ abbrev pub mostEarned : ℕ
 mostEarned = mostMargin * mostEnds + 2 * mostFee
 
 abbrev pub mostWorth : ℕ
-mostWorth = longest * mostEarned
+mostWorth = mostHours * mostEarned
 
 -- half-mills: a line, which begins with what an hour earns and grows by a margin from output to output; an amount on it
 -- with what the hours of a day earn
@@ -50,7 +46,7 @@ abbrev pub mostHourProfit : ℕ
 mostHourProfit = mostMargin * (2 * words) + 3 * mostFee
 
 abbrev pub mostProfit : ℕ
-mostProfit = longest * mostHourProfit
+mostProfit = mostHours * mostHourProfit
 
 -- half-mills: a size that no such day comes to
 abbrev pub profitSize : ℕ

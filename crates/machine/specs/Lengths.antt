@@ -1,5 +1,5 @@
 -- How many numbers the search holds in one place. Definitions only. Assumes nothing.
-use Prim.Native.Nat.{ℕ, _+_, _-_, _*_}
+use Prim.Native.Nat.{ℕ, _+_, _*_}
 use Rattle.model.specs.Limits.{mostStages, mostHours, mostOutput, mostTime}
 
 -- a row: one for each output
@@ -20,6 +20,12 @@ sideLength = fallsAt + mostStages
 abbrev pub entriesLength : ℕ
 entriesLength = mostHours + 1
 
--- the rows of a lock, one for each hour to go but the last
+-- what is kept while the plan goes forward: places, of which each has room for a row and its side
+abbrev pub placeLength : ℕ
+placeLength = rowLength + sideLength
+
+abbrev pub mostPlaces : ℕ
+mostPlaces = 11
+
 abbrev pub keptLength : ℕ
-keptLength = (mostTime - 1) * rowLength
+keptLength = mostPlaces * placeLength

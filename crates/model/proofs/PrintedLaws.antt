@@ -6,6 +6,7 @@ use mathlib.Core.List.{List, [], _∷_, _++_}
 use mathlib.Core.Option.{Option, none, some}
 use Prim.Native.Nat.{ℕ, zero, suc, _+_, _*_, _^_, _≤_, _<_}
 use native.Mathlib.Nat.{eq-or-lt-of-le}
+use native.Mathlib.Decide.{decLt}
 use native.Mathlib.Omega.{arith}
 use native.Mathlib.Numerals.{add-one}
 use borrow.Author.Tests.{lt-ltb, le-ltb, ltb-true}
@@ -20,13 +21,13 @@ use Rattle.model.specs.declared.Outcome.the-variants.{Accepted, Refused}
 use Rattle.model.specs.declared.Plan.{Plan}
 use Rattle.model.specs.declared.Plan.the-variants.{Found, Refused as NotPlanned}
 use Rattle.model.specs.declared.Written.the-variants.{Bytes, Refused as NotWritten}
-use Rattle.model.specs.Limits.{mostHours, mostInput, workLength, words}
+use Rattle.model.specs.Limits.{mostHours, mostInput, shortWork, words}
 use Rattle.model.specs.Symbols.{last, p0}
 use Rattle.model.specs.Marks.{p}
 use Rattle.model.specs.Profit.{energy, profitOf}
 use Rattle.model.specs.Best.{bestDay}
 use Rattle.model.specs.Layout.{listed}
-use Rattle.model.specs.Refusals.{refusalOf}
+use Rattle.model.specs.Refusals.{workLength, refusal10, refusalOf}
 use Rattle.model.specs.Answers.{planned, readOf, scheduleOf}
 use Rattle.model.specs.Printed.{ascii, digits, decimal, field, sign, profitLine, refusedLine, hourLine}
 use Rattle.model.specs.Printed.{hourLines, dayText, readText, printedOf, printingOf}
@@ -37,7 +38,7 @@ use Rattle.model.proofs.LimitsLaws.{Limits, limits-of-refusalOf}
 use Rattle.model.proofs.SetsLaws.{sets-front}
 use Rattle.model.proofs.BestLaws.{best-of-bestDay}
 use Rattle.model.proofs.AcceptedLaws.{read-limits}
-use Rattle.model.proofs.ScheduleLaws.{scheduleOf-planned}
+use Rattle.model.proofs.ScheduleLaws.{scheduleOf-work, scheduleOf-planned}
 
 -- "refused " and "profit "
 abbrev pub refusedWord : List ℕ
@@ -77,7 +78,7 @@ abbrev pub profitLineMost : ℕ
 profitLineMost = 28
 
 abbrev pub hourLineMost : ℕ
-hourLineMost = 2 + 1 + (5 + 1) + (6 + 1)
+hourLineMost = 3 + 1 + (5 + 1) + (6 + 1)
 
 pub length-refusedLine : (n : ℕ) → n < 1000 → length (refusedLine n) ≤ 12
 length-refusedLine n h =
@@ -93,14 +94,14 @@ length-profitLine v h =
     rw (profitLine-is v (natAbs v) refl)
     (simp length-append (omega (arith, length-sign v, length-decimal 18 (natAbs v) h)))
 
-pub length-hourLine : (k output halves : ℕ) → k < 10 ^ 2 → output < 10 ^ 5 → halves < 10 ^ 6
+pub length-hourLine : (k output halves : ℕ) → k < 10 ^ 3 → output < 10 ^ 5 → halves < 10 ^ 6
     → length (hourLine k output halves) ≤ hourLineMost
 length-hourLine k output halves hk ho hh =
     rw (hourLine-is k output halves)
     (simp length-append
     (omega (
       arith,
-      length-decimal 1 k (omega arith),
+      length-decimal 2 k (omega arith),
       length-decimal 4 output (omega arith),
       length-decimal 5 halves (omega arith),
     )))
@@ -135,7 +136,7 @@ module _ (c : Case) (l : List ℕ) where
     p-lt zero = opening
     p-lt (suc k) = outputs k
 
-    pub length-hourLines : (n : ℕ) → n < 10 ^ 2 → length (hourLines c l n) ≤ hourLineMost * n
+    pub length-hourLines : (n : ℕ) → n < 10 ^ 3 → length (hourLines c l n) ≤ hourLineMost * n
     unfolding hourLines energy
     length-hourLines zero h = omega arith
     length-hourLines (suc n) h =
@@ -184,6 +185,25 @@ pub printed-refused : (input : List ℕ) (n : ℕ) → length input ≤ mostInpu
 unfolding readText refusedLine field
 printed-refused input n h e = printedOf-read input h ∙ ap (λ o. readText o (readOf input .case)) e
 
+-- the text of a case that was read, by the numbers that its search works in
+module _ (c : Case) (few : last c ≤ mostHours) where
+  readText-longer : shortWork < workLength c → readText Accepted c ≡ refusedLine 10
+  unfolding readText refusal10
+  readText-longer h = rw (lt-ltb shortWork (workLength c) h)
+
+  readText-day : workLength c ≤ shortWork → readText Accepted c ≡ dayText c (bestDay c)
+  unfolding readText refusal10
+  readText-day h = rw (le-ltb shortWork (workLength c) h, le-ltb mostHours (last c) few)
+
+pub printed-longer : (input : List ℕ) → length input ≤ mostInput → readOf input .outcome ≡ Accepted
+    → shortWork < workLength (readOf input .case) → printedOf input ≡ ascii "refused 10\n"
+unfolding refusedLine field decimal digits listed
+printed-longer input h e w =
+    let c = readOf input .case in
+    printedOf-read input h
+    ∙ ap (λ o. readText o c) e
+    ∙ readText-longer c (limits-of-refusalOf c (read-limits input e) .hours-le) w
+
 -- what `print` answers and leaves
 module _ (input lent : List ℕ) where
   abbrev text : List ℕ
@@ -221,8 +241,8 @@ unfoldable pub planText : Case → List ℕ → Plan → List ℕ
 planText c outputs (Found m) = profitLine (m .0) ++ hourLines c outputs (last c)
 planText c outputs (NotPlanned n) = refusedLine n
 
--- it is the text of the file, where the memory is long enough
-module _ (file : List ℕ) (work : List ℤ) (outputs : List ℕ) (long : workLength ≤ length work)
+-- it is the text of the file, where as many numbers are lent as short minimum times ask for
+module _ (file : List ℕ) (work : List ℤ) (outputs : List ℕ) (long : length work ≡ shortWork)
     (room : mostHours ≤ length outputs) where
   abbrev c : Case
   c = readOf file .case
@@ -245,8 +265,20 @@ module _ (file : List ℕ) (work : List ℤ) (outputs : List ℕ) (long : workLe
   readText-plan (Refused n) e = refl
   readText-plan Accepted e =
       let z = read-limits file e in
-      planned-text z (bestDay c) refl
-      ∙ ap (λ s. planText c (s .outputs) (s .answer)) (sym (scheduleOf-planned c work outputs z long (hours-room z)))
+      let few = limits-of-refusalOf c z .hours-le in
+      go z few (decLt shortWork (workLength c))
+    where
+      go : refusalOf c ≡ 0 → last c ≤ mostHours → Dec (shortWork < workLength c)
+          → readText Accepted c
+          ≡ planText c (scheduleOf Accepted c work outputs .outputs) (scheduleOf Accepted c work outputs .answer)
+      go z few (yes h) =
+          readText-longer c few h
+          ∙ ap (λ s. planText c (s .outputs) (s .answer)) (sym (scheduleOf-work c work outputs z (omega arith)))
+      go z few (no h) =
+          readText-day c few (omega arith)
+          ∙ planned-text z (bestDay c) refl
+          ∙ ap (λ s. planText c (s .outputs) (s .answer))
+          (sym (scheduleOf-planned c work outputs z (omega arith) (hours-room z)))
 
   -- a list is found only for a case within the limits
   pub found-limits : (o : Outcome) → readOf file .outcome ≡ o → {m : HalfMills}

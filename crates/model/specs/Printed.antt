@@ -13,12 +13,13 @@ use Rattle.model.specs.declared.Case.{Case}
 use Rattle.model.specs.declared.Outcome.{Outcome}
 use Rattle.model.specs.declared.Outcome.the-variants.{Accepted, Refused}
 use Rattle.model.specs.declared.Written.the-variants.{Bytes, Refused as NotWritten}
-use Rattle.model.specs.Limits.{mostInput}
+use Rattle.model.specs.Limits.{mostInput, mostHours, shortWork}
 use Rattle.model.specs.Symbols.{last}
 use Rattle.model.specs.Marks.{p}
 use Rattle.model.specs.Profit.{energy, profitOf}
 use Rattle.model.specs.Best.{bestDay}
 use Rattle.model.specs.Layout.{listed}
+use Rattle.model.specs.Refusals.{refusal10}
 use Rattle.model.specs.Answers.{Writing, readOf}
 
 -- the bytes of a text of ASCII characters
@@ -71,9 +72,10 @@ unfoldable pub dayText : Case → Option (List ℕ) → List ℕ
 dayText c none = refusedLine 11
 dayText c (some l) = profitLine (profitOf c l) ++ hourLines c l (last c)
 
--- the best day of a case that was read, or its refusal
+-- the best day of a case that was read, or its refusal; the numbers that are lent are those of short minimum times
+-- (request F-6)
 unfoldable pub readText : Outcome → Case → List ℕ
-readText Accepted c = dayText c (bestDay c)
+readText Accepted c = let day = dayText c (bestDay c) in cond (refusal10 c shortWork mostHours) (refusedLine 10) day
 readText (Refused n) c = refusedLine n
 
 -- what the program prints for an input: 1 where it is longer than a case may be, whatever its bytes

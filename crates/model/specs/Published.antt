@@ -1,5 +1,5 @@
 -- A second view of the limits and the layout: the published numbers field by field, and the bytes of a file at their
--- offsets (document 01, "Case file" and "Refusal list"; requests F-2 and F-5). The promises tie it to Limits, Forms,
+-- offsets (document 01, "Case file" and "Refusal list"; requests F-2, F-5 and F-6). The promises tie it to Limits, Forms,
 -- Refusals and Layout; no entry rests on it. Definitions only. Assumes nothing.
 use mathlib.Core.Path.{_≡_}
 use mathlib.Core.Logic.{_⊎_}
@@ -12,22 +12,22 @@ use Rattle.model.specs.declared.Case.{Case}
 use Rattle.model.specs.Symbols.{stage, hourly, priced}
 use Rattle.model.specs.Layout.{noOutput, noMills}
 
--- ---- the limits that each number stands for
-module _ (c : Case) where
-  pub record Counts : Type 0 where
-    pub rises : (1 ≤ c .rises) × (c .rises ≤ 8)
-    pub falls : (1 ≤ c .falls) × (c .falls ≤ 8)
-    pub hours : (1 ≤ c .hours) × (c .hours ≤ 48)
+-- ---- the limits that each number stands for, for any limit of the hours and of the minimum times
+pub record CountsTo (most : ℕ) (c : Case) : Type 0 where
+  pub rises : (1 ≤ c .rises) × (c .rises ≤ 8)
+  pub falls : (1 ≤ c .falls) × (c .falls ≤ 8)
+  pub hours : (1 ≤ c .hours) × (c .hours ≤ most)
 
+pub record RatesTo (most : ℕ) (c : Case) : Type 0 where
+  pub rampup : (1 ≤ c .rampup .0) × (c .rampup .0 ≤ 400)
+  pub rampdown : (1 ≤ c .rampdown .0) × (c .rampdown .0 ≤ 400)
+  pub minup : (1 ≤ c .minup .0) × (c .minup .0 ≤ most)
+  pub mindown : (1 ≤ c .mindown .0) × (c .mindown .0 ≤ most)
+
+module _ (c : Case) where
   pub record Outputs : Type 0 where
     pub minimum : (1 ≤ c .minimum .0) × (c .minimum .0 ≤ c .capacity .0)
     pub capacity : c .capacity .0 ≤ 400
-
-  pub record Rates : Type 0 where
-    pub rampup : (1 ≤ c .rampup .0) × (c .rampup .0 ≤ 400)
-    pub rampdown : (1 ≤ c .rampdown .0) × (c .rampdown .0 ≤ 400)
-    pub minup : (1 ≤ c .minup .0) × (c .minup .0 ≤ 8)
-    pub mindown : (1 ≤ c .mindown .0) × (c .mindown .0 ≤ 8)
 
   pub record Costs : Type 0 where
     pub variable : (pos 0 ≤ℤ c .variable .0) × (c .variable .0 ≤ℤ pos 1000000)
@@ -64,15 +64,25 @@ module _ (c : Case) where
         → (negsuc 9999999 ≤ℤ priced (c .prices) k) × (priced (c .prices) k ≤ℤ pos 10000000)
 
 -- a record keeps the limits of this number
-pub data Limited (c : Case) : ℕ → Type 0 where
-  limit2 : Counts c → Limited c 2
-  limit3 : Outputs c → Limited c 3
-  limit4 : Rates c → Limited c 4
-  limit5 : Costs c → Limited c 5
-  limit6 : Trajectories c → Limited c 6
-  limit7 : Opening c → Limited c 7
-  limit8 : Orders c → Limited c 8
-  limit13 : Prices c → Limited c 13
+pub data LimitedTo (hours time : ℕ) (c : Case) : ℕ → Type 0 where
+  limit2 : CountsTo hours c → LimitedTo hours time c 2
+  limit3 : Outputs c → LimitedTo hours time c 3
+  limit4 : RatesTo time c → LimitedTo hours time c 4
+  limit5 : Costs c → LimitedTo hours time c 5
+  limit6 : Trajectories c → LimitedTo hours time c 6
+  limit7 : Opening c → LimitedTo hours time c 7
+  limit8 : Orders c → LimitedTo hours time c 8
+  limit13 : Prices c → LimitedTo hours time c 13
+
+-- the limits, and those without request F-6
+abbrev pub Counts : Case → Type 0
+Counts = CountsTo 168
+
+abbrev pub Limited : Case → ℕ → Type 0
+Limited = LimitedTo 168 24
+
+abbrev pub LimitedBefore : Case → ℕ → Type 0
+LimitedBefore = LimitedTo 48 8
 
 -- the first of these numbers whose limits are not kept; 0 where all are
 pub data FirstRefused (limited : ℕ → Type 0) : List ℕ → ℕ → Type 0 where
@@ -160,11 +170,23 @@ module _ (s : List ℕ) where
 
 -- a file keeps the limits of this number: 1 and 2 by its pairs, 12 by its last two bytes, the others by the record that
 -- it holds
-pub data FileLimited (s : List ℕ) : ℕ → Type 0 where
-  file1 : Chained s → FileLimited s 1
-  file2 : (c : Case) → Measured s c → Counts c → FileLimited s 2
-  file12 : (word s 0 ≡ 20 → (word s (length s - 2) ≡ 2) ⊎ (word s (length s - 2) ≡ 3)) → FileLimited s 12
-  held : (n : ℕ) (c : Case) → Holds s c → Limited c n → FileLimited s n
+pub data FileLimitedTo (hours time : ℕ) (s : List ℕ) : ℕ → Type 0 where
+  file1 : Chained s → FileLimitedTo hours time s 1
+  file2 : (c : Case) → Measured s c → CountsTo hours c → FileLimitedTo hours time s 2
+  file12 : (word s 0 ≡ 20 → (word s (length s - 2) ≡ 2) ⊎ (word s (length s - 2) ≡ 3)) → FileLimitedTo hours time s 12
+  held : (n : ℕ) (c : Case) → Holds s c → LimitedTo hours time c n → FileLimitedTo hours time s n
+
+abbrev pub FileLimited : List ℕ → ℕ → Type 0
+FileLimited = FileLimitedTo 168 24
+
+abbrev pub FileLimitedBefore : List ℕ → ℕ → Type 0
+FileLimitedBefore = FileLimitedTo 48 8
+
+-- how many numbers a search of a record works in, by its minimum times
+pub data WorksIn (c : Case) : ℕ → Type 0 where
+  short : c .minup .0 ≤ 8 → c .mindown .0 ≤ 8 → WorksIn c 8192
+  up : 8 < c .minup .0 → WorksIn c 32768
+  down : 8 < c .mindown .0 → WorksIn c 32768
 
 -- ---- the numbers of a record
 -- the numbers of the unit and the counts; the costs
@@ -186,8 +208,8 @@ pub record Zeroed (c d : Case) : Type 0 where
   pub costs : costs d ≡ costs c
   pub rise : d .rise ≡ cut noOutput 8 (c .rises) (c .rise)
   pub fall : d .fall ≡ cut noOutput 8 (c .falls) (c .fall)
-  pub prices : d .prices ≡ cut noMills 48 (c .hours) (c .prices)
-  pub orders : d .orders ≡ cut 0 48 (c .hours) (c .orders)
+  pub prices : d .prices ≡ cut noMills 168 (c .hours) (c .prices)
+  pub orders : d .orders ≡ cut 0 168 (c .hours) (c .orders)
 
 -- every number of a record is 0
 pub record AllZero (c : Case) : Type 0 where
@@ -195,12 +217,12 @@ pub record AllZero (c : Case) : Type 0 where
   pub costs : costs c ≡ replicate 4 (pos 0)
   pub rise : c .rise ≡ replicate 8 noOutput
   pub fall : c .fall ≡ replicate 8 noOutput
-  pub prices : c .prices ≡ replicate 48 noMills
-  pub orders : c .orders ≡ replicate 48 0
+  pub prices : c .prices ≡ replicate 168 noMills
+  pub orders : c .orders ≡ replicate 168 0
 
--- what a record has room for: its arrays are of 8 and of 48 entries
+-- what a record has room for: its arrays are of 8 and of 168 entries
 pub record Stored (c : Case) : Type 0 where
   pub rise : length (c .rise) ≡ 8
   pub fall : length (c .fall) ≡ 8
-  pub prices : length (c .prices) ≡ 48
-  pub orders : length (c .orders) ≡ 48
+  pub prices : length (c .prices) ≡ 168
+  pub orders : length (c .orders) ≡ 168

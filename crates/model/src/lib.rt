@@ -12,13 +12,15 @@ ghost use Rattle.model.specs.Answers.{outcomeNumber};
 // hours of a day.
 pub const STAGES: usize = 8;
 
-pub const HOURS: usize = 48;
+pub const HOURS: usize = 168;
 
 // Megawatts: a capacity or a ramp, at the most.
 pub const MOST_OUTPUT: u16 = 400;
 
-// Hours: a minimum time, and h, at the most.
-pub const MOST_TIME: u16 = 8;
+// Hours: a minimum time, at the most, and up to which it is short; h, at the most.
+pub const MOST_TIME: u16 = 24;
+
+pub const SHORT_TIME: u16 = 8;
 
 pub const MOST_ELAPSED: u16 = 10000;
 
@@ -39,8 +41,10 @@ pub const SHORT_DAY: u16 = 23;
 
 pub const LONG_DAY: u16 = 25;
 
-// Signed 64-bit numbers that a search is lent to work in.
-pub const WORK: usize = 8192;
+// Signed 64-bit numbers that a search is lent to work in: where both minimum times are short, and where not.
+pub const SHORT_WORK: usize = 8192;
+
+pub const LONG_WORK: usize = 32768;
 
 // Bytes of an input that the program reads as a case, at the most.
 pub const INPUT: usize = 4096;

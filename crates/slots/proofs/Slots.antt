@@ -9,7 +9,6 @@ use native.Mathlib.Omega.{arith}
 use lib.ListN.{length, getD}
 use lib.IntN.{ℤ, pos}
 use Rattle.laws.specs.Placed.{Part}
-use Rattle.model.specs.Limits.{workLength}
 use Rattle.machine.specs.declared.Unit.{Unit}
 use Rattle.machine.specs.declared.Terms.{Terms}
 use Rattle.machine.specs.Moves.{worth, Worths}
@@ -75,7 +74,7 @@ module _ {u : Unit} (w : Worths) where
       }
 
 -- ---- kept layers
-saved-at-same : (u : Unit) (w : Worths) (off : ℕ) {xs zs : List ℤ}
+pub saved-at-same : (u : Unit) (w : Worths) (off : ℕ) {xs zs : List ℤ}
     → ((i : ℕ) → off ≤ i → i < off + (cellsOf u + sideLength) → getD zs i (pos 0) ≡ getD xs i (pos 0))
     → SavedAt u w off xs → SavedAt u w off zs
 saved-at-same u w off h s =
@@ -110,9 +109,12 @@ module _ (l k : ℕ) (some : 1 ≤ l) where
       let same : slotFrom l k ≡ t = omega arith in
       ap (λ s. s * l) same ∙ sym e
 
-module _ (u : Unit) (l n : ℕ) (slots : Slotted u l n) (day : ℕ → Terms) where
-  pub saved-start : {xs : List ℤ} → workLength ≤ length xs → Saved u day l n (u .hours .0) xs
-  saved-start r = record { room = r; at = λ s a b. absurd (omega arith) }
+pub slotted-in : {u : Unit} {l n a b : ℕ} → a ≡ b → Slotted u l n a → Slotted u l n b
+slotted-in {u} {l} {n} e s = subst (Slotted u l n) e s
+
+module _ (u : Unit) (l n : ℕ) {m : ℕ} (slots : Slotted u l n m) (day : ℕ → Terms) where
+  pub saved-start : {xs : List ℤ} → Saved u day l n (u .hours .0) xs
+  saved-start = record { at = λ s a b. absurd (omega arith) }
 
   -- the layer of an hour that has a slot
   pub saved-at : (k s : ℕ) {xs : List ℤ} → s * l ≡ k → k < u .hours .0 → Saved u day l n 0 xs
@@ -123,7 +125,7 @@ module _ (u : Unit) (l n : ℕ) (slots : Slotted u l n) (day : ℕ → Terms) wh
   -- an hour that has no slot
   pub saved-skip : (k : ℕ) {xs : List ℤ} → (slotFrom l k * l ≡ k → ⊥) → Saved u day l n (suc k) xs
       → Saved u day l n k xs
-  saved-skip k {xs} out s = record { room = s .room; at = λ t a b. go t b (eq-or-lt-of-le a) }
+  saved-skip k {xs} out s = record { at = λ t a b. go t b (eq-or-lt-of-le a) }
     where
       go : (t : ℕ) → t * l < u .hours .0 → (k ≡ t * l) ⊎ (k < t * l) → SavedAt u (worth u day (t * l)) (t * n) xs
       go t b (inl e) = absurd (out (slot-own l k (slots .stride-pos) t e))
@@ -133,7 +135,7 @@ module _ (u : Unit) (l n : ℕ) (slots : Slotted u l n) (day : ℕ → Terms) wh
   pub saved-step : (k s : ℕ) {xs zs : List ℤ} → s * l ≡ k → Kept u (worth u day k) (s * n) xs zs
       → Saved u day l n (suc k) xs → Saved u day l n k zs
   saved-step k s {xs} {zs} e p saved =
-      record { room = omega (arith, p .long, saved .room); at = λ t a b. go t b (eq-or-lt-of-le a) }
+      record { at = λ t a b. go t b (eq-or-lt-of-le a) }
     where
       go : (t : ℕ) → t * l < u .hours .0 → (k ≡ t * l) ⊎ (k < t * l) → SavedAt u (worth u day (t * l)) (t * n) zs
       go t b (inl q) =

@@ -4,7 +4,7 @@ use mathlib.Core.List.{List}
 use Prim.Native.Nat.{ℕ, _+_, _*_, _-_, _/_, _≤_, _<_}
 use lib.ListN.{getD, length}
 use lib.IntN.{ℤ, pos}
-use Rattle.model.specs.Limits.{workLength}
+use Rattle.model.specs.Limits.{longWork}
 use Rattle.machine.specs.Coded.{coded}
 use Rattle.machine.specs.declared.Unit.{Unit}
 use Rattle.machine.specs.declared.Terms.{Terms}
@@ -28,12 +28,13 @@ pub record Kept (u : Unit) (w : Worths) (off : ℕ) (xs zs : List ℤ) : Type 0 
   pub below : (i : ℕ) → i < off → getD zs i (pos 0) ≡ getD xs i (pos 0)
   pub above : (i : ℕ) → off + (cellsOf u + sideLength) ≤ i → getD zs i (pos 0) ≡ getD xs i (pos 0)
 
--- every l-th layer has a slot of n numbers within the working numbers
-pub record Slotted (u : Unit) (l n : ℕ) : Type 0 where
+-- every l-th layer has a slot of n numbers among m
+pub record Slotted (u : Unit) (l n m : ℕ) : Type 0 where
   pub stride-pos : 1 ≤ l
   pub stride-le : l ≤ u .hours .0
   pub width : n ≡ cellsOf u + sideLength
-  pub room : (s : ℕ) → s * l < u .hours .0 → s * n + n ≤ workLength
+  pub most : m ≤ longWork
+  pub room : (s : ℕ) → s * l < u .hours .0 → s * n + n ≤ m
 
 -- the first slot whose hour is not before hour k, where every l-th hour has one
 abbrev pub slotFrom : ℕ → ℕ → ℕ
@@ -41,7 +42,6 @@ slotFrom l k = (k + l - 1) / l
 
 -- every l-th layer from hour a on, each in its slot
 pub record Saved (u : Unit) (day : ℕ → Terms) (l n a : ℕ) (xs : List ℤ) : Type 0 where
-  pub room : workLength ≤ length xs
   pub at : (s : ℕ) → a ≤ s * l → s * l < u .hours .0 → SavedAt u (worth u day (s * l)) (s * n) xs
 
 -- a layer at hour h, not before hour k

@@ -9,13 +9,12 @@ use machine::SIDE;
 use machine::Terms;
 use machine::Unit;
 use model::Hour;
-use model::WORK;
 ghost use mathlib.Core.Path.{_≡_};
 ghost use Prim.Native.Nat.{ℕ, suc, _+_, _*_, _≤_, _<_};
 ghost use lib.ListN.{length, getD};
 ghost use lib.IntN.{pos};
 ghost use Rattle.laws.specs.Placed.{Part};
-ghost use Rattle.model.specs.Limits.{workLength, words};
+ghost use Rattle.model.specs.Limits.{longWork, words};
 ghost use Rattle.machine.specs.Fit.{Fit};
 ghost use Rattle.machine.specs.Moves.{dayOf, worth, Worths};
 ghost use Rattle.window.specs.Rows.{Written};
@@ -23,7 +22,7 @@ ghost use Rattle.cells.specs.Table.{Entries, Layer, Day, cellsOf};
 ghost use Rattle.machine.specs.Lengths.{sideLength};
 ghost use Rattle.slots.specs.Saved.{SavedAt, Kept, Slotted, Saved, Based, slotFrom};
 
-// The numbers of a slot, and how many layers from one that is kept to the next: as few as there is room for.
+// The numbers of a slot, and how many layers from one that is kept to the next: as few as so many numbers have room for.
 pub fn width_of(u: Unit) -> usize
     requires { ⌜ Fit u ⌝ }
     ensures { λ r. ⌜ r ≡ cellsOf u + sideLength ⌝ }
@@ -31,13 +30,13 @@ pub fn width_of(u: Unit) -> usize
     rows::cells_of(u) + SIDE
 }
 
-pub fn stride_of(u: Unit, n: usize) -> Hour
+pub fn stride_of(u: Unit, n: usize, room: usize) -> Hour
     requires { ⌜ Fit u ⌝ }
-    requires { ⌜ n ≡ cellsOf u + sideLength ⌝ }
-    ensures { λ r. ⌜ Slotted u (r .0) n ⌝ }
+    requires { ⌜ (n ≡ cellsOf u + sideLength) × (n ≤ room) × (room ≤ longWork) ⌝ }
+    ensures { λ r. ⌜ Slotted u (r .0) n room ⌝ }
 {
     let hours = u.hours.0 as usize;
-    let m = count::up_to(WORK, n, hours);
+    let m = count::up_to(room, n, hours);
     Hour(count::whole(hours + m - 1, m) as u16)
 }
 
@@ -124,7 +123,7 @@ pub fn save_if(
     work: &mut [i64],
 )
     requires { ⌜ Fit u ⌝ }
-    requires { ⌜ (k .0 < u .hours .0) × (Slotted u (l .0) n) × (workLength ≤ length (now work)) ⌝ }
+    requires { ⌜ (k .0 < u .hours .0) × (Slotted u (l .0) n (length (now work))) ⌝ }
     requires { ⌜ (cellsOf u ≤ length (now row)) × (length (now side) ≡ sideLength) ⌝ }
     ensures { λ _. ⌜ ((day : ℕ → Terms) → Layer u (worth u day (k .0)) (now (row .entry)) (now (side .entry))
         → Saved u day (l .0) n (suc (k .0)) (now (work .entry)) → Saved u day (l .0) n (k .0) (now (work .exit))) ⌝ }
@@ -146,7 +145,7 @@ pub fn base_layer(
     side: &mut [i64; SIDE],
 ) -> Hour
     requires { ⌜ Fit u ⌝ }
-    requires { ⌜ (k .0 ≤ u .hours .0) × (Slotted u (l .0) n) × (workLength ≤ length (now work)) ⌝ }
+    requires { ⌜ (k .0 ≤ u .hours .0) × (Slotted u (l .0) n (length (now work))) ⌝ }
     requires { ⌜ (cellsOf u ≤ length (now row)) × (length (now side) ≡ sideLength) ⌝ }
     ensures { λ h. ⌜ ((day : ℕ → Terms) → Saved u day (l .0) n 0 (now (work .entry))
         → Based u day (k .0) (h .0) (now (row .exit)) (now (side .exit))) ⌝ }
@@ -203,7 +202,7 @@ pub fn layer_at(
 )
     requires { ⌜ Fit u ⌝ }
     requires { ⌜ Day u (now margins) (now orders) charges ⌝ }
-    requires { ⌜ (k .0 ≤ u .hours .0) × (Slotted u (l .0) n) ⌝ }
+    requires { ⌜ (k .0 ≤ u .hours .0) × (Slotted u (l .0) n (length (now work))) ⌝ }
     requires { ⌜ (Entries u (dayOf (now margins) (now orders) charges) 0 (now entries))
         × (Saved u (dayOf (now margins) (now orders) charges) (l .0) n 0 (now work)) ⌝ }
     requires { ⌜ (cellsOf u ≤ length (now row)) × (length (now side) ≡ sideLength) ⌝ }

@@ -11,7 +11,7 @@ use Rattle.model.specs.declared.HalfMills.{HalfMills}
 use Rattle.model.specs.declared.Plan.{Plan}
 use Rattle.model.specs.declared.Plan.the-variants.{Found, Refused}
 use Rattle.model.specs.declared.Reading.{Reading}
-use Rattle.model.specs.Limits.{mostHours, workLength}
+use Rattle.model.specs.Limits.{mostHours, shortWork}
 use Rattle.model.specs.Answers.{readOf, scheduleOf}
 use Rattle.model.specs.Printed.{profitLine, refusedLine, hourLines, readText}
 use Rattle.model.proofs.LimitsLaws.{Limits}
@@ -22,7 +22,7 @@ pub abs-of-fits : (v : ℤ) → SFits w64 v → natAbs v < 10 ^ 19
 abs-of-fits (pos n) f = omega (arith, f .sfits)
 abs-of-fits (negsuc n) f = omega (arith, f .sfits)
 
-module _ (file : List ℕ) (work : List ℤ) (outputs : List ℕ) (long : workLength ≤ length work)
+module _ (file : List ℕ) (work : List ℤ) (outputs : List ℕ) (long : length work ≡ shortWork)
     (room : mostHours ≤ length outputs) {r : Reading} (e : r ≡ readOf file) {plan : Plan} {left : List ℕ}
     (answered : plan ≡ scheduleOf (r .outcome) (r .case) work outputs .answer)
     (kept : left ≡ scheduleOf (r .outcome) (r .case) work outputs .outputs) where

@@ -7,7 +7,7 @@ abbrev pub profitLength : ℕ
 profitLength = 28
 
 abbrev pub hourLength : ℕ
-hourLength = 16
+hourLength = 17
 
 -- bytes of a text, at the most: the profit's line, and a line for each hour
 abbrev pub longest : ℕ

@@ -4,7 +4,7 @@
 ghost use mathlib.Core.Path.{_≡_};
 ghost use Prim.Native.Nat.{_≤_};
 ghost use lib.ListN.{length};
-ghost use Rattle.model.specs.Limits.{mostHours, workLength};
+ghost use Rattle.model.specs.Limits.{mostHours, shortWork};
 ghost use Rattle.model.specs.Answers.{readOf};
 ghost use Rattle.model.specs.Printed.{readText, printedOf, printingOf};
 ghost use Rattle.text.specs.Lines.{longest};
@@ -12,19 +12,19 @@ ghost use Rattle.lines.specs.Puts.{Puts};
 use model::HOURS;
 use model::INPUT;
 use model::Plan;
-use model::WORK;
+use model::SHORT_WORK;
 use model::Written;
 
 // Bytes at the most (specs/Lines): of the profit's line, of an hour's, and of a text, which has a line for each hour.
 const PROFIT_LINE: usize = 28;
 
-const HOUR_LINE: usize = 16;
+const HOUR_LINE: usize = 17;
 
 pub const LONGEST: usize = PROFIT_LINE + HOUR_LINE * HOURS;
 
-// Puts the best day of a file, found in lent memory that is long enough, or its refusal.
+// Puts the best day of a file, found in as many lent numbers as short minimum times ask for, or its refusal.
 fn put_best(file: &[u8], work: &mut [i64], outputs: &mut [u16], out: &mut [u8; LONGEST]) -> usize
-    requires { ⌜ (workLength ≤ length (now work)) × (mostHours ≤ length (now outputs)) ⌝ }
+    requires { ⌜ (length (now work) ≡ shortWork) × (mostHours ≤ length (now outputs)) ⌝ }
     ensures { λ r. ⌜ Puts (now (out .entry)) 0 (readText (readOf (now (file .entry)) .outcome)
         (readOf (now (file .entry)) .case)) (now (out .exit)) r ⌝ }
     ensures { λ r. ⌜ r ≤ longest ⌝ }
@@ -45,7 +45,7 @@ fn put_text(input: &[u8], out: &mut [u8; LONGEST]) -> usize
     if INPUT < input.len() {
         return lines::put_refused(out, 1);
     }
-    let mut work = [0i64; WORK];
+    let mut work = [0i64; SHORT_WORK];
     let mut outputs = [0u16; HOURS];
     put_best(input, &mut work, &mut outputs, out)
 }

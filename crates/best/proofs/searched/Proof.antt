@@ -6,9 +6,11 @@ use native.Mathlib.Omega.{arith}
 use Prim.Native.Nat.{ℕ}
 use lib.IntN.{pos, _-ℤ_}
 use lib.ListN.{length, getD}
-use Rattle.model.specs.Limits.{workLength, mostHours}
+use Rattle.model.specs.Limits.{mostHours}
 use Rattle.model.specs.Best.{bestDay}
 use Rattle.model.specs.Layout.{noMills}
+use Rattle.model.specs.Answers.{cleared}
+use Rattle.model.proofs.WorkLaws.{work-within}
 use Rattle.model.proofs.LayoutLaws.{length-padded}
 use Rattle.model.proofs.LimitsLaws.{limits-of-refusalOf}
 use Rattle.machine.specs.declared.Unit.{Unit}
@@ -29,7 +31,7 @@ start c =
 -- what the search found, of the case's own unit, hours and opening
 module _ (c : tie.After-search-first) where
   found : Found (unitOf (start c .args .case)) (termsOf (start c .args .case)) (openingOf (start c .args .case))
-      (start c .args .outputs .now) (c .search-first .last .1 .1 .1 .1 .1 .1 .0) (c .search-first .result .0)
+      (start c .args .outputs .now) (c .search-first .last .1 .1 .1 .1 .1 .1 .1 .0) (c .search-first .result .0)
   unfolding marginsOf ordersOf
   found =
       let orders = c .before .before .before .before .before in
@@ -89,6 +91,7 @@ search-first-requires c κs =
     let m = c .before .before .before .before .before .margins2 .ensures in
     let ord = c .before .before .before .before .orders .ensures in
     let lim = limits-of-refusalOf case (s .pre .0 .0) in
+    let work = work-within case in
     let day : Day (unitOf case) (marginsOf case) (ordersOf case) (chargesOf case) =
     record {
       margins-long = omega (
@@ -104,10 +107,12 @@ search-first-requires c κs =
       (
         rw (u, m, ord, ch) day,
         (
-          subst (λ (x : Unit). Proper x (opening-of .result)) (sym u)
-              (subst (Proper (unitOf case)) (sym o) (opening-proper case (s .pre .0 .0))),
-          omega (arith, ap (λ (x : Unit). x .hours .0) u),
-          omega arith,
+          (
+            subst (λ (x : Unit). Proper x (opening-of .result)) (sym u)
+                (subst (Proper (unitOf case)) (sym o) (opening-proper case (s .pre .0 .0))),
+            omega (arith, ap (λ (x : Unit). x .hours .0) u),
+          ),
+          (omega (arith, s .pre .1 .0, work .0), omega (arith, s .pre .1 .0, work .1), s .pre .1 .1),
         ),
       ),
     )
@@ -135,7 +140,8 @@ returns c =
     let r = find-none (s .args .case) accepted late (fit a) (fair a) work outputs _ _ (found a) absent in (
       r .0,
       (
-        c .before .before .before .clear .ensures ∙ cleared-past workLength work _ (a .search-first .ensures .1)
+        c .before .before .before .clear .ensures ∙ cleared-past (s .args .n) work _ (a .search-first .ensures .1)
+            ∙ ap (λ n. cleared n work) (s .pre .1 .0)
             ∙ sym (planned-work (s .args .case) work outputs (bestDay (s .args .case))),
         r .1,
       ),
@@ -158,7 +164,8 @@ returns-2 c =
     let r = find-some (s .args .case) accepted late (fit a) (fair a) work outputs _ _ (found a) present in (
       r .0,
       (
-        c .before .before .before .clear .ensures ∙ cleared-past workLength work _ (a .search-first .ensures .1)
+        c .before .before .before .clear .ensures ∙ cleared-past (s .args .n) work _ (a .search-first .ensures .1)
+            ∙ ap (λ n. cleared n work) (s .pre .1 .0)
             ∙ sym (planned-work (s .args .case) work outputs (bestDay (s .args .case))),
         r .1,
       ),

@@ -3,10 +3,7 @@
 use Prim.Native.Nat.{_≤_, _<_}
 use native.Mathlib.Omega.{arith}
 use Rattle.model.specs.Limits.{mostHours}
-use Rattle.machine.specs.Bounds.{longest, mostWorth, mostOffer, mostProfit, thresholdSize, profitSize}
-
-pub hours-longest : mostHours ≤ longest
-hours-longest = omega arith
+use Rattle.machine.specs.Bounds.{mostWorth, mostOffer, mostProfit, thresholdSize, profitSize}
 
 pub worth-below : mostWorth < thresholdSize
 worth-below = omega arith

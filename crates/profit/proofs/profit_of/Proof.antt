@@ -10,7 +10,7 @@ use Rattle.model.specs.Profit.{profitAt}
 use Rattle.model.proofs.MarksLaws.{p-zero}
 use Rattle.model.proofs.LimitsLaws.{Limits, limits-of-refusalOf}
 use Rattle.machine.specs.Bounds.{mostMargin, mostHourProfit, mostProfit}
-use Rattle.machine.proofs.Table.BoundsLaws.{hours-longest, profit-below}
+use Rattle.machine.proofs.Table.BoundsLaws.{profit-below}
 use Rattle.profit.specs.Worth.{Worth, Hourly}
 use Rattle.profit.proofs.EarnedLaws.{over-of, Earned, earned-start, earned-step, earned-end}
 use Rattle.profit.proofs.profit_of.Statement.{statement}
@@ -94,7 +94,7 @@ sum-requires c κs =
     let d = in-hour (c .before) in
     let l = d .before .loop in
     let day : natAbs (l .total .0) + natAbs (c .hour-profit .result .0) ≤ mostProfit =
-    omega (arith, l .inv .most, worth c .most, d .loop-test .taken, limits (start d) .hours-le, hours-longest) in
+    omega (arith, l .inv .most, worth c .most, d .loop-test .taken, limits (start d) .hours-le) in
     omega (arith, profit-below)
 
 loop-less : tie.Need-loop-less Inv-loop μ-loop
@@ -115,7 +115,7 @@ returns c =
     let h = c .before .loop .inv in
     let s = c .before .before .before .before .before .before in
     let limits = limits s in
-    record { is = earned-end h (search needs); most = omega (arith, h .most, h .part, limits .hours-le, hours-longest) }
+    record { is = earned-end h (search needs); most = omega (arith, h .most, h .part, limits .hours-le) }
 
 pub profit-of-spec : {M : Type 1} → statement M
 profit-of-spec =

@@ -17,7 +17,7 @@ mul-load-layer c =
     let slot = c .before .before .before .before .slot-from in
     let p = c .before .before .before .before .before .pre .1 .0 in
     let room = p .1 .room (slot .result .number) (omega (arith, slot .ensures .1, c .before .if1 .taken)) in
-    omega (arith, room)
+    omega (arith, room, p .1 .most)
 
 load-layer-requires : tie.Need-load-layer-requires
 load-layer-requires c κs =
@@ -26,7 +26,7 @@ load-layer-requires c κs =
     let s = i .before .before .before .before in
     let p = s .pre .1 .0 in
     let room = p .1 .room (slot .result .number) (omega (arith, slot .ensures .1, i .if1 .taken)) in
-    (s .pre .0, (omega (arith, room, p .2, p .1 .width), s .pre .1 .1))
+    (s .pre .0, (omega (arith, room, p .1 .width), s .pre .1 .1))
 
 returns : tie.Need-returns
 returns c =

@@ -6,7 +6,7 @@ base-layer-requires : tie.Need-base-layer-requires
 base-layer-requires c κs =
     let s = c .before .before .before in
     let q = s .pre .1 .1 in
-    (s .pre .0, ((q .0 .0, q .0 .1, q .1 .0 .1 .room), q .1 .1))
+    (s .pre .0, (q .0, q .1 .1))
 
 descend-requires : tie.Need-descend-requires
 descend-requires c κs =

@@ -17,7 +17,7 @@ mul-save-layer c =
     let slot = c .before .before .before .before .slot-from in
     let p = c .before .before .before .before .before .pre .1 .0 in
     let room = p .1 .room (slot .result .number) (omega (arith, slot .ensures .1, c .before .if1 .taken, p .0)) in
-    omega (arith, room)
+    omega (arith, room, p .1 .most)
 
 save-layer-requires : tie.Need-save-layer-requires
 save-layer-requires c κs =
@@ -26,7 +26,7 @@ save-layer-requires c κs =
     let p = s .pre .1 .0 in
     let taken = c .before .before .if1 .taken in
     let room = p .1 .room (slot .result .number) (omega (arith, slot .ensures .1, taken, p .0)) in
-    (s .pre .0, (omega (arith, room, p .2, p .1 .width), s .pre .1 .1))
+    (s .pre .0, (omega (arith, room, p .1 .width), s .pre .1 .1))
 
 same-length : tie.Need-same-length
 same-length c = search needs

@@ -80,7 +80,7 @@ module _ (c : tie.After-known-told) where
   hours-length =
       let case = read call .read .result .case in
       let opening : case .initial .0 < words = omega (arith, initial-le case limits, limits .capacity-le) in
-      let few : case .hours < 100 = omega (arith, limits .hours-le) in
+      let few : case .hours < 1000 = omega (arith, limits .hours-le) in
       omega (
         arith,
         limits .hours-le,

@@ -1,11 +1,11 @@
--- `giqapsun::giqapsun_check_3` meets its contract: an admitted record is checked as it stands. Assumes nothing.
+-- `giqapsun::giqapsun_check_4` meets its contract: an admitted record is checked as it stands. Assumes nothing.
 use borrow.Author.Needs.{needs}
 use mathlib.Core.Path.{_∙_, ap}
 use Rattle.model.specs.Answers.{checkOf}
 use Rattle.model.proofs.AdmitLaws.{check-admitted}
 use Rattle.giqapsun.specs.Boundary.{verdictOut}
-use Rattle.giqapsun.proofs.giqapsun_check_3.Statement.{statement}
-use Rattle.giqapsun.proofs.giqapsun_check_3.Tie as tie
+use Rattle.giqapsun.proofs.giqapsun_check_4.Statement.{statement}
+use Rattle.giqapsun.proofs.giqapsun_check_4.Tie as tie
 
 admit-requires : tie.Need-admit-requires
 admit-requires c κs = search needs
@@ -25,6 +25,6 @@ returns c =
     ∙ ap (λ r. checkOf (r .outcome) (r .case) (a .list .now)) (c .before .before .admit .ensures)
     ∙ check-admitted (a .case) (a .list .now))
 
-pub giqapsun-check-3-spec : {M : Type 1} → statement M
-giqapsun-check-3-spec =
+pub giqapsun-check-4-spec : {M : Type 1} → statement M
+giqapsun-check-4-spec =
     tie.close (tie.spec admit-requires check-requires verdict-out-requires returns)

@@ -1,11 +1,11 @@
--- `giqapsun::giqapsun_best_3` meets its contract: an admitted record is searched as it stands. Assumes nothing.
+-- `giqapsun::giqapsun_best_4` meets its contract: an admitted record is searched as it stands. Assumes nothing.
 use borrow.Author.Needs.{needs}
 use mathlib.Core.Path.{_∙_, ap}
 use Rattle.model.specs.Answers.{scheduleOf}
 use Rattle.model.proofs.AdmitLaws.{schedule-admitted}
 use Rattle.giqapsun.specs.Boundary.{planOut}
-use Rattle.giqapsun.proofs.giqapsun_best_3.Statement.{statement}
-use Rattle.giqapsun.proofs.giqapsun_best_3.Tie as tie
+use Rattle.giqapsun.proofs.giqapsun_best_4.Statement.{statement}
+use Rattle.giqapsun.proofs.giqapsun_best_4.Tie as tie
 
 admit-requires : tie.Need-admit-requires
 admit-requires c κs = search needs
@@ -36,7 +36,7 @@ returns c =
       (d .1 .0 ∙ ap (λ s. s .work) e, d .1 .1 ∙ ap (λ s. s .outputs) e),
     )
 
-pub giqapsun-best-3-spec : {M : Type 1} → statement M
-giqapsun-best-3-spec =
+pub giqapsun-best-4-spec : {M : Type 1} → statement M
+giqapsun-best-4-spec =
     tie.close
     (tie.spec admit-requires schedule-requires plan-out-requires same-length same-length-2 returns)

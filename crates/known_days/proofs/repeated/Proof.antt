@@ -1,18 +1,22 @@
--- `known_days::twice` is safe and ends: k is at most 24. Assumes nothing.
+-- `known_days::repeated` is safe and ends: k is from a day to a week. Assumes nothing.
 use borrow.Author.Needs.{needs}
 use Prim.Native.Nat.{_≤_, _-_}
 use native.Mathlib.Omega.{arith}
-use Rattle.known_days.proofs.twice.Statement.{statement}
-use Rattle.known_days.proofs.twice.Tie as tie
+use Rattle.model.specs.Limits.{mostHours}
+use Rattle.known_days.proofs.repeated.Statement.{statement}
+use Rattle.known_days.proofs.repeated.Tie as tie
 
 abbrev Inv-loop : tie.InvT-loop
-Inv-loop prices both₀ k₀ both k = k ≤ 24
+Inv-loop all₀ k₀ all k = (24 ≤ k) × (k ≤ mostHours)
 
 abbrev μ-loop : tie.MeasureT-loop
-μ-loop prices both₀ k₀ both k = 24 - k
+μ-loop all₀ k₀ all k = mostHours - k
 
 loop-holds : tie.Need-loop-holds Inv-loop μ-loop
-loop-holds c = omega arith
+loop-holds c = (omega arith, omega arith)
+
+sub-price : tie.Need-sub-price Inv-loop μ-loop
+sub-price c = search needs
 
 mul-price : tie.Need-mul-price Inv-loop μ-loop
 mul-price c = search needs
@@ -20,14 +24,11 @@ mul-price c = search needs
 array-copy-out-price : tie.Need-array-copy-out-price Inv-loop μ-loop
 array-copy-out-price c = search needs
 
-add-both : tie.Need-add-both Inv-loop μ-loop
-add-both c = search needs
+mul-all : tie.Need-mul-all Inv-loop μ-loop
+mul-all c = search needs
 
-mul-both : tie.Need-mul-both Inv-loop μ-loop
-mul-both c = search needs
-
-array-set-from-both : tie.Need-array-set-from-both Inv-loop μ-loop
-array-set-from-both c = search needs
+array-set-from-all : tie.Need-array-set-from-all Inv-loop μ-loop
+array-set-from-all c = search needs
 
 add-k : tie.Need-add-k Inv-loop μ-loop
 add-k c = search needs
@@ -41,18 +42,18 @@ loop-again c = search needs
 returns : tie.Need-returns Inv-loop μ-loop
 returns c = search needs
 
-pub twice-spec : {M : Type 1} → statement M
-twice-spec =
+pub repeated-spec : {M : Type 1} → statement M
+repeated-spec =
     tie.close
     (tie.spec
     Inv-loop
     μ-loop
     loop-holds
+    sub-price
     mul-price
     array-copy-out-price
-    add-both
-    mul-both
-    array-set-from-both
+    mul-all
+    array-set-from-all
     add-k
     loop-less
     loop-again

@@ -1,11 +1,11 @@
--- `giqapsun::giqapsun_better_3` meets its contract: an admitted record is compared with as it stands. Assumes nothing.
+-- `giqapsun::giqapsun_better_4` meets its contract: an admitted record is compared with as it stands. Assumes nothing.
 use borrow.Author.Needs.{needs}
 use mathlib.Core.Path.{_∙_, ap}
 use Rattle.model.specs.Compared.{comparedOf}
 use Rattle.model.proofs.AdmitLaws.{compare-admitted}
 use Rattle.giqapsun.specs.Boundary.{choiceOut}
-use Rattle.giqapsun.proofs.giqapsun_better_3.Statement.{statement}
-use Rattle.giqapsun.proofs.giqapsun_better_3.Tie as tie
+use Rattle.giqapsun.proofs.giqapsun_better_4.Statement.{statement}
+use Rattle.giqapsun.proofs.giqapsun_better_4.Tie as tie
 
 admit-requires : tie.Need-admit-requires
 admit-requires c κs = search needs
@@ -25,6 +25,6 @@ returns c =
     ∙ ap (λ r. comparedOf (r .outcome) (r .case) (a .first .now) (a .second .now)) (c .before .before .admit .ensures)
     ∙ compare-admitted (a .case) (a .first .now) (a .second .now))
 
-pub giqapsun-better-3-spec : {M : Type 1} → statement M
-giqapsun-better-3-spec =
+pub giqapsun-better-4-spec : {M : Type 1} → statement M
+giqapsun-better-4-spec =
     tie.close (tie.spec admit-requires compare-requires choice-out-requires returns)

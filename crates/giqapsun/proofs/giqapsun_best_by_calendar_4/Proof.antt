@@ -1,11 +1,11 @@
--- `giqapsun::giqapsun_best_by_calendar_3` meets its contract: the record is scheduled as that of an accepted reading.
+-- `giqapsun::giqapsun_best_by_calendar_4` meets its contract: the record is scheduled as that of an accepted reading.
 -- Assumes nothing.
 use borrow.Author.Needs.{needs}
 use mathlib.Core.Path.{_∙_, ap}
 use Rattle.model.specs.Calendar.{calendarOf}
 use Rattle.giqapsun.specs.Boundary.{planOut}
-use Rattle.giqapsun.proofs.giqapsun_best_by_calendar_3.Statement.{statement}
-use Rattle.giqapsun.proofs.giqapsun_best_by_calendar_3.Tie as tie
+use Rattle.giqapsun.proofs.giqapsun_best_by_calendar_4.Statement.{statement}
+use Rattle.giqapsun.proofs.giqapsun_best_by_calendar_4.Tie as tie
 
 as-read-requires : tie.Need-as-read-requires
 as-read-requires c κs = search needs
@@ -36,8 +36,8 @@ returns c =
       (d .1 .0 ∙ ap (λ s. s .work) e, d .1 .1 ∙ ap (λ s. s .outputs) e),
     )
 
-pub giqapsun-best-by-calendar-3-spec : {M : Type 1} → statement M
-giqapsun-best-by-calendar-3-spec =
+pub giqapsun-best-by-calendar-4-spec : {M : Type 1} → statement M
+giqapsun-best-by-calendar-4-spec =
     tie.close
     (tie.spec
     as-read-requires

@@ -1,0 +1,2 @@
+-- Laws behind what is kept.
+pub mod HeldLaws

@@ -1,0 +1,2 @@
+-- Definitions that the contracts of what is kept cite.
+pub mod Held
