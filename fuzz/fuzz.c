@@ -4,14 +4,15 @@
  *   list to check;
  *   as a record, byte for byte, with counts, stages and numbers of any size;
  *   as a record brought within the limits, so that every input is also searched, half of them from inside a start or a
- *   stop, and with two fields at a limit or past it; both are searched by a calendar of the input's own windows too.
+ *   stop, some of up to a week or with minimum times of up to 24 hours, and with two fields at a limit or past it; both
+ *   are searched by a calendar of the input's own windows too.
  * An accepted case that form 2 or the old form can hold is read from a file of that form too.
  * Of each accepted case pairs of lists are compared too: its best list, the best one at the prices in reverse, near
  * misses and the input's own numbers, at its own prices and at prices that leave no margin, where lists earn the same.
  * Every answer is compared with that of the independent scheduler of tests/oracle; its search is left out on
  * large days, where it takes too long. Whatever the answers have to agree in among themselves is tested too.
- * Any difference aborts. The last lines say how often each outcome of a file, of a pair and of a calendar came up, and
- * what searched days open and close inside.
+ * Any difference aborts. The last lines say how often each outcome of a file, of a pair and of a calendar came up, what
+ * searched days open and close inside, and how many of them are longer than two days or have long minimum times.
  */
 #include "giqapsun.h"
 #include <stdio.h>
@@ -33,6 +34,7 @@
 struct giqapsun_reading oracle_read(const uint8_t *file, size_t n);
 struct giqapsun_written oracle_write(struct giqapsun_case c, uint8_t *bytes, size_t n);
 struct giqapsun_verdict oracle_check(struct giqapsun_case c, const uint16_t *list, size_t n);
+size_t oracle_work(struct giqapsun_case c);
 struct giqapsun_plan oracle_best(struct giqapsun_case c, size_t n, uint16_t *outputs, size_t m);
 struct giqapsun_choice oracle_better(struct giqapsun_case c, const uint16_t *first, size_t n, const uint16_t *second,
                                      size_t m);
@@ -42,7 +44,12 @@ uint32_t oracle_fill(struct giqapsun_case *c, const uint16_t *on, size_t a, cons
                      uint16_t first, uint16_t hours);
 
 /* Hours times outputs up to which the independent search is asked. */
-#define SEARCHED 2000
+#define SEARCHED 4000
+
+/* Hours of two days, of the longest minimum time with which the fewer working numbers do, and of the longest. */
+#define TWO_DAYS 48
+#define SHORT_TIME 8
+#define LONGEST_TIME 24
 
 /* Noise that depends on the input alone (xorshift). */
 static uint64_t state;
@@ -81,18 +88,23 @@ static uint16_t within(struct bytes *bytes, unsigned low, unsigned high)
     return (uint16_t)(low + take16(bytes) % (high - low + 1));
 }
 
+/* The most numbers that are lent to work in. */
+#define WORK_LENT (GIQAPSUN_WORK_MOST + MARGIN)
+
 /* The lent memory, and what it held before the call. */
-static int64_t work[MARGIN + GIQAPSUN_WORK + MARGIN], work_before[MARGIN + GIQAPSUN_WORK + MARGIN];
+static int64_t work[MARGIN + WORK_LENT + MARGIN], work_before[MARGIN + WORK_LENT + MARGIN];
 static uint16_t outputs[MARGIN + GIQAPSUN_HOURS + MARGIN], outputs_before[MARGIN + GIQAPSUN_HOURS + MARGIN];
 static uint8_t file[MARGIN + GIQAPSUN_FILE_MOST + MARGIN], file_before[MARGIN + GIQAPSUN_FILE_MOST + MARGIN];
 
 /* Files, pairs and calendars by their outcome; days that were found from inside a start or a stop, lists that pass and
-   close inside a stop, and those that break 21 at a stop after the day. */
+   close inside a stop, and those that break 21 at a stop after the day; days that were found past two days, of a whole
+   week, and with a long minimum time, and lists that break 21 or 22 of such a time. */
 static struct {
     unsigned long old, form_2, form_3, files_refused, by_12, by_13;
     unsigned long refused, neither, alone, profit, tie, identical;
     unsigned long found, by_14, by_15, by_2, by_11, by_others;
     unsigned long from_start, from_stop, to_stop, too_early;
+    unsigned long past_two_days, whole_weeks, long_times, by_21, by_22;
 } met;
 
 static void print_met(void)
@@ -105,6 +117,23 @@ static void print_met(void)
     fprintf(stderr, "by 2 %lu, by 11 %lu, by others %lu\n", met.by_2, met.by_11, met.by_others);
     fprintf(stderr, "stages: from a start %lu, from a stop %lu, ", met.from_start, met.from_stop);
     fprintf(stderr, "to a stop %lu, 21 after the day %lu\n", met.to_stop, met.too_early);
+    fprintf(stderr, "weeks: past two days %lu, of 168 hours %lu, ", met.past_two_days, met.whole_weeks);
+    fprintf(stderr, "minimum times above 8 %lu, 21 of such %lu, 22 %lu\n", met.long_times, met.by_21, met.by_22);
+}
+
+/* Whether a minimum time is above 8 hours. */
+static int is_long(const struct giqapsun_case *c)
+{
+    return c->minup > SHORT_TIME || c->mindown > SHORT_TIME;
+}
+
+/* giqapsun_work, compared: how many numbers a search of a record is lent, be it refused or not. */
+static size_t numbers_of(struct giqapsun_case c)
+{
+    size_t numbers = giqapsun_work(c);
+    HOLDS(numbers == oracle_work(c));
+    HOLDS(numbers == (is_long(&c) ? GIQAPSUN_WORK_MOST : GIQAPSUN_WORK));
+    return numbers;
 }
 
 /* Whether two records hold the same; bytes between their fields do not count. */
@@ -157,23 +186,32 @@ static struct giqapsun_written written_in(struct giqapsun_case c, size_t n)
     return w;
 }
 
-/* Fills the memory that a search is lent. */
-static void lend(void)
+/* Bytes of so many working numbers with a margin on both sides. */
+static size_t work_bytes(size_t n)
 {
-    for (size_t i = 0; i < sizeof work / sizeof *work; i++)
+    return (MARGIN + n + MARGIN) * sizeof *work;
+}
+
+/* Fills the memory of so many working numbers, and of the outputs, that a search is lent. */
+static void lend(size_t n)
+{
+    HOLDS(work_bytes(n) <= sizeof work);
+    for (size_t i = 0; i < MARGIN + n + MARGIN; i++)
         work[i] = (int64_t)noise();
     for (size_t i = 0; i < sizeof outputs / sizeof *outputs; i++)
         outputs[i] = (uint16_t)noise();
-    memcpy(work_before, work, sizeof work);
+    memcpy(work_before, work, work_bytes(n));
     memcpy(outputs_before, outputs, sizeof outputs);
 }
 
-/* The memory that a search with m outputs leaves, compared with what was lent. */
-static void left_as_lent(struct giqapsun_case c, struct giqapsun_plan plan, size_t m)
+/* The memory that a search with n numbers and m outputs leaves, compared with what was lent. */
+static void left_as_lent(struct giqapsun_case c, struct giqapsun_plan plan, size_t n, size_t m)
 {
-    if (plan.number == 0 || plan.number == 11)
-        memset(work_before + MARGIN, 0, GIQAPSUN_WORK * sizeof *work);
-    HOLDS(memcmp(work, work_before, sizeof work) == 0);
+    if (plan.number == 0 || plan.number == 11) {
+        HOLDS(numbers_of(c) <= n);
+        memset(work_before + MARGIN, 0, numbers_of(c) * sizeof *work);
+    }
+    HOLDS(memcmp(work, work_before, work_bytes(n)) == 0);
     size_t filled = plan.number == 0 ? c.hours : 0;
     HOLDS(filled <= m);
     memcpy(outputs_before + MARGIN, outputs + MARGIN, filled * sizeof *outputs);
@@ -184,9 +222,9 @@ static void left_as_lent(struct giqapsun_case c, struct giqapsun_plan plan, size
 /* giqapsun_best with so many numbers and outputs, with the memory filled and compared. */
 static struct giqapsun_plan best_in(struct giqapsun_case c, size_t n, size_t m)
 {
-    lend();
+    lend(n);
     struct giqapsun_plan plan = giqapsun_best(c, work + MARGIN, n, outputs + MARGIN, m);
-    left_as_lent(c, plan, m);
+    left_as_lent(c, plan, n, m);
     return plan;
 }
 
@@ -226,10 +264,10 @@ static uint16_t *copied(const uint16_t *list, size_t n)
 static struct giqapsun_plan by_calendar_in(struct giqapsun_case c, const struct calendar *by, size_t n, size_t m)
 {
     uint16_t *on = copied(by->on, by->a), *off = copied(by->off, by->b);
-    lend();
+    lend(n);
     struct giqapsun_plan plan = giqapsun_best_by_calendar(c, on, by->a, off, by->b, by->first, by->hours,
                                                           work + MARGIN, n, outputs + MARGIN, m);
-    left_as_lent(c, plan, m);
+    left_as_lent(c, plan, n, m);
     HOLDS(memcmp(on, by->on, by->a * sizeof *on) == 0 && memcmp(off, by->off, by->b * sizeof *off) == 0);
     free(on);
     free(off);
@@ -285,6 +323,8 @@ static struct giqapsun_verdict checked(struct giqapsun_case c, const uint16_t *l
     else
         HOLDS(verdict.hour == 0);
     met.too_early += verdict.hour > c.hours;
+    met.by_21 += verdict.rule == 21 && c.minup > SHORT_TIME;
+    met.by_22 += verdict.rule == 22 && c.mindown > SHORT_TIME;
     met.to_stop += verdict.number == 0 && verdict.rule == 0 && list[n - 1] > 0 && list[n - 1] < c.minimum &&
                    !is_starting(&c, list);
     return verdict;
@@ -364,7 +404,7 @@ static void best_in_reverse(struct giqapsun_case c, uint16_t *list)
     struct giqapsun_case reverse = c;
     for (size_t k = 0; k < c.hours; k++)
         reverse.prices[k] = c.prices[c.hours - 1 - k];
-    HOLDS(best_in(reverse, GIQAPSUN_WORK, c.hours).number == 0);
+    HOLDS(best_in(reverse, numbers_of(c), c.hours).number == 0);
     memcpy(list, outputs + MARGIN, c.hours * sizeof *list);
 }
 
@@ -511,19 +551,26 @@ static void try_accepted(struct giqapsun_case c, const uint8_t *bytes, size_t n,
     HOLDS(written_in(c, n - 1).number == 10);
     try_older_forms(c, bytes);
     try_other_form(bytes, n, rest);
-    HOLDS(best_in(c, GIQAPSUN_WORK - 1, GIQAPSUN_HOURS).number == 10);
-    HOLDS(best_in(c, GIQAPSUN_WORK, c.hours - 1).number == 10);
+    size_t numbers = numbers_of(c);
+    HOLDS(best_in(c, numbers - 1, GIQAPSUN_HOURS).number == 10);
+    HOLDS(best_in(c, numbers, c.hours - 1).number == 10);
+    if (numbers > GIQAPSUN_WORK)
+        HOLDS(best_in(c, GIQAPSUN_WORK, GIQAPSUN_HOURS).number == 10);
 
-    struct giqapsun_plan plan = best_as_expected(c, GIQAPSUN_WORK, c.hours);
+    struct giqapsun_plan plan = best_as_expected(c, numbers, c.hours);
     HOLDS(plan.number == 0 || plan.number == 11);
     met.from_start += plan.number == 0 && c.upstage > 0;
     met.from_stop += plan.number == 0 && c.downstage > 0;
+    met.past_two_days += plan.number == 0 && c.hours > TWO_DAYS;
+    met.whole_weeks += plan.number == 0 && c.hours == GIQAPSUN_HOURS;
+    met.long_times += plan.number == 0 && is_long(&c);
     uint16_t best[GIQAPSUN_HOURS + 1] = {0}, list[GIQAPSUN_HOURS + 1] = {0};
     if (plan.number == 0) {
         memcpy(best, outputs + MARGIN, c.hours * sizeof *best);
         struct giqapsun_verdict verdict = checked(c, best, c.hours);
         HOLDS(verdict.number == 0 && verdict.rule == 0 && verdict.profit == plan.profit);
-        struct giqapsun_plan again = best_in(c, GIQAPSUN_WORK + MARGIN, GIQAPSUN_HOURS);
+        size_t more = take8(rest) % 4 == 0 ? WORK_LENT : numbers + MARGIN;
+        struct giqapsun_plan again = best_in(c, more, GIQAPSUN_HOURS);
         HOLDS(again.number == 0 && again.profit == plan.profit);
         HOLDS(memcmp(best, outputs + MARGIN, c.hours * sizeof *best) == 0);
     }
@@ -583,19 +630,20 @@ static void try_file(const uint8_t *bytes, size_t n, struct bytes *rest)
 static void try_record(struct giqapsun_case c, struct bytes *rest)
 {
     uint16_t list[GIQAPSUN_HOURS] = {0};
+    size_t numbers = numbers_of(c);
     struct giqapsun_written w = written_in(c, GIQAPSUN_FILE_MOST);
     if (w.number != 0) {
         HOLDS(refuses_records(w.number));
         HOLDS(checked(c, list, GIQAPSUN_HOURS).number == w.number);
         HOLDS(chosen(c, list, GIQAPSUN_HOURS, list, 0).number == w.number);
-        HOLDS(best_in(c, GIQAPSUN_WORK, GIQAPSUN_HOURS).number == w.number);
-        HOLDS(best_in(c, GIQAPSUN_WORK - 1, 0).number == w.number);
+        HOLDS(best_in(c, numbers, GIQAPSUN_HOURS).number == w.number);
+        HOLDS(best_in(c, numbers - 1, 0).number == w.number);
         HOLDS(written_in(c, 0).number == w.number);
         return;
     }
     HOLDS(checked(c, list, c.hours).number == 0);
     HOLDS(chosen(c, list, c.hours, list, c.hours).number == 0);
-    HOLDS(best_in(c, GIQAPSUN_WORK - 1, GIQAPSUN_HOURS).number == 10);
+    HOLDS(best_in(c, numbers - 1, GIQAPSUN_HOURS).number == 10);
     HOLDS(written_in(c, GIQAPSUN_FILE_MOST).number == 0);
     uint8_t bytes[GIQAPSUN_FILE_MOST];
     memcpy(bytes, file + MARGIN, w.length);
@@ -621,7 +669,7 @@ static int32_t price(struct bytes *bytes, int way, unsigned spread)
 /* Opens the day: off-line, on-line, or inside a start or a stop where the unit has stages for it. */
 static void open_day(struct giqapsun_case *c, struct bytes *bytes)
 {
-    unsigned way = take8(bytes) % 4, least = 1, most = take8(bytes) % 4 == 0 ? 10000 : 16;
+    unsigned way = take8(bytes) % 4, least = 1, most = take8(bytes) % 4 == 0 ? 10000 : LONGEST_TIME + 1;
     c->upstage = c->downstage = 0;
     c->initial = 0;
     if (way == 2 && c->rises > 1) {
@@ -648,8 +696,8 @@ static struct giqapsun_case within_limits(struct bytes *bytes)
     c.minimum = within(bytes, 1, c.capacity);
     c.rampup = within(bytes, 1, take8(bytes) % 2 == 0 ? 400 : 4);
     c.rampdown = within(bytes, 1, take8(bytes) % 2 == 0 ? 400 : 4);
-    c.minup = within(bytes, 1, 8);
-    c.mindown = within(bytes, 1, 8);
+    c.minup = within(bytes, 1, take8(bytes) % 4 == 0 ? LONGEST_TIME : SHORT_TIME);
+    c.mindown = within(bytes, 1, take8(bytes) % 4 == 0 ? LONGEST_TIME : SHORT_TIME);
     c.variable = take8(bytes) % 2 == 0 ? within(bytes, 0, 100) : 15 * take16(bytes);
     c.fixed = take8(bytes) % 2 == 0 ? within(bytes, 0, 100) : 1500 * take16(bytes);
     c.startcost = take8(bytes) % 2 == 0 ? within(bytes, 0, 1000) : 1500 * take16(bytes);
@@ -665,7 +713,9 @@ static struct giqapsun_case within_limits(struct bytes *bytes)
     for (size_t i = 1; i < c.falls; i++)
         c.fall[i] = within(bytes, (unsigned)(c.falls - i), c.fall[i - 1] - 1u);
     open_day(&c, bytes);
-    c.hours = take8(bytes) % 4 == 0 ? GIQAPSUN_HOURS : within(bytes, 1, GIQAPSUN_HOURS);
+    c.hours = within(bytes, 1, take8(bytes) % 4 == 0 ? GIQAPSUN_HOURS : TWO_DAYS);
+    if (take8(bytes) % 8 == 0)
+        c.hours = GIQAPSUN_HOURS;
     int orders = take8(bytes) % 2 == 0;
     unsigned spread = take8(bytes) % 2 == 0 ? 65535 : 200;
     int way = take8(bytes) % 3;
@@ -677,15 +727,28 @@ static struct giqapsun_case within_limits(struct bytes *bytes)
     return c;
 }
 
-/* Brings a field of a record to a limit or past it: a price of the day or past it, an order, a stage, h, p(0) or a
-   cost. */
+/* The case with another number of hours, at the prices and orders that it has. */
+static struct giqapsun_case with_hours(struct giqapsun_case c, size_t hours)
+{
+    for (size_t k = c.hours; k < hours; k++) {
+        c.prices[k] = c.prices[k % c.hours];
+        c.orders[k] = c.orders[k % c.hours];
+    }
+    c.hours = hours;
+    return c;
+}
+
+/* Brings a field of a record to a limit or past it: a price of the day or past it, an order, a stage, h, p(0), a
+   minimum time, T or a cost. */
 static void bring_to_limit(struct giqapsun_case *c, struct bytes *bytes)
 {
     static const int32_t prices[6] = {-10000001, -10000000, 10000000, 10000001, INT32_MIN, INT32_MAX};
-    size_t k = within(bytes, 1, (unsigned)c->hours) - 1u;
+    static const uint16_t times[6] = {0, SHORT_TIME, SHORT_TIME + 1, LONGEST_TIME, LONGEST_TIME + 1, UINT16_MAX};
+    size_t hours = c->hours < GIQAPSUN_HOURS ? c->hours : GIQAPSUN_HOURS;
+    size_t k = within(bytes, 1, (unsigned)hours) - 1u;
     int32_t *costs[4] = {&c->variable, &c->fixed, &c->startcost, &c->stopcost};
     size_t cost = take8(bytes) % 4;
-    switch (take8(bytes) % 8) {
+    switch (take8(bytes) % 11) {
     case 0:
         c->prices[k] = prices[take8(bytes) % 6];
         break;
@@ -706,6 +769,16 @@ static void bring_to_limit(struct giqapsun_case *c, struct bytes *bytes)
         break;
     case 6:
         c->initial = take8(bytes) % 2 == 0 ? c->rise[take8(bytes) % c->rises] : c->fall[take8(bytes) % c->falls];
+        break;
+    case 7:
+        c->minup = times[take8(bytes) % 6];
+        break;
+    case 8:
+        c->mindown = times[take8(bytes) % 6];
+        break;
+    case 9:
+        *c = with_hours(*c, GIQAPSUN_HOURS);
+        c->hours += take8(bytes) % 2;
         break;
     default:
         *costs[cost] = take8(bytes) % 2 == 0 ? -1 : (cost == 0 ? 1000001 : 100000001);
@@ -771,25 +844,15 @@ static void bring_calendar_to_limit(struct calendar *by, struct bytes *bytes)
     }
 }
 
-/* The case with another number of hours, at the prices and orders that it has. */
-static struct giqapsun_case with_hours(struct giqapsun_case c, size_t hours)
-{
-    for (size_t k = c.hours; k < hours; k++) {
-        c.prices[k] = c.prices[k % c.hours];
-        c.orders[k] = c.orders[k % c.hours];
-    }
-    c.hours = hours;
-    return c;
-}
-
 /* A case by a calendar, in enough memory and in memory that is short: 10 in place of an answer that comes after it. */
 static void try_calendar(struct giqapsun_case c, const struct calendar *by)
 {
-    struct giqapsun_plan plan = by_calendar_as_expected(c, by, GIQAPSUN_WORK, GIQAPSUN_HOURS);
+    size_t numbers = numbers_of(c);
+    struct giqapsun_plan plan = by_calendar_as_expected(c, by, numbers, GIQAPSUN_HOURS);
     uint32_t number = plan.number == 0 || plan.number == 11 ? 10 : plan.number;
     HOLDS(refuses_records(number) || number == 10 || number == 14 || number == 15);
-    HOLDS(by_calendar_in(c, by, GIQAPSUN_WORK - 1, GIQAPSUN_HOURS).number == number);
-    HOLDS(by_calendar_in(c, by, GIQAPSUN_WORK, by->hours - 1u).number == number);
+    HOLDS(by_calendar_in(c, by, numbers - 1, GIQAPSUN_HOURS).number == number);
+    HOLDS(by_calendar_in(c, by, numbers, by->hours - 1u).number == number);
     met.found += plan.number == 0;
     met.by_14 += number == 14;
     met.by_15 += number == 15;

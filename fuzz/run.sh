@@ -36,7 +36,7 @@ done
 
 # a run starts from the seeds and from what earlier runs kept
 status=0
-"$folder/fuzz" -max_total_time="$seconds" -max_len=512 -timeout=60 -print_final_stats=1 -verbosity=1 \
+"$folder/fuzz" -max_total_time="$seconds" -max_len=1024 -timeout=60 -print_final_stats=1 -verbosity=1 \
     -artifact_prefix="$folder/" "$folder/corpus" "$folder/seeds" >"$folder/log" 2>&1 || status=$?
 if [ $status -ne 0 ]; then
     tail -n 40 "$folder/log"
@@ -48,4 +48,4 @@ if [ $status -ne 0 ]; then
 fi
 executions=$(sed -n 's/^stat::number_of_executed_units: *//p' "$folder/log")
 echo "fuzz: $executions executions in $seconds seconds, no difference"
-grep -E '^(files|pairs|calendars|stages): ' "$folder/log"
+grep -E '^(files|pairs|calendars|stages|weeks): ' "$folder/log"

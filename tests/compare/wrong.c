@@ -1,7 +1,7 @@
 /*
  * A library that is wrong in one way, named by the variable WRONG: each call gives the answer of a right library,
  * whose functions are called right_read and so on here, and one of them then does something else. What is wrong about
- * days that open and close inside a sequence stands in stages.c.
+ * days that open and close inside a sequence stands in stages.c, about weeks and long minimum times in weeks.c.
  */
 #define _POSIX_C_SOURCE 200809L
 #include "wrong.h"
@@ -92,7 +92,7 @@ struct giqapsun_reading giqapsun_read(const uint8_t *file, size_t n)
     if (wrong("stack") && reading.number == 0)
         reading.number = deeper(UINT32_MAX);
     reading = reading.number == 0 ? read_wrong_sign(file, reading) : read_wrong_form(file, n, reading);
-    return read_wrong_stages(file, n, reading);
+    return read_wrong_weeks(file, read_wrong_stages(file, n, reading));
 }
 
 /* Turns a file of form 3 into one of the old form, and gives its length. */
@@ -126,7 +126,7 @@ struct giqapsun_written giqapsun_write(struct giqapsun_case c, uint8_t *bytes, s
         exit(0);
     if (wrong("refusal") && written.number == 3)
         written.number = 4;
-    return write_wrong_stages(bytes, written);
+    return write_wrong_weeks(&c, write_wrong_stages(bytes, written));
 }
 
 struct giqapsun_verdict giqapsun_check(struct giqapsun_case c, const uint16_t *list, size_t n)
@@ -139,13 +139,13 @@ struct giqapsun_verdict giqapsun_check(struct giqapsun_case c, const uint16_t *l
         verdict.rule = 5;
     if (wrong("narrow"))
         verdict.profit = (int32_t)verdict.profit;
-    return check_wrong_stages(c, list, verdict);
+    return check_wrong_weeks(c, list, check_wrong_stages(c, list, verdict));
 }
 
 struct giqapsun_plan giqapsun_best(struct giqapsun_case c, int64_t *work, size_t n, uint16_t *outputs, size_t m)
 {
     struct giqapsun_plan plan = right_best(c, work, n, outputs, m);
-    if (wrong("short") && plan.number == 13 && n < GIQAPSUN_WORK)
+    if (wrong("short") && plan.number == 13 && n < right_work(c))
         plan.number = 10;
     if (wrong("zero") && plan.number == 0) {
         for (size_t k = 0; k < c.hours; k++)
@@ -160,7 +160,8 @@ struct giqapsun_plan giqapsun_best(struct giqapsun_case c, int64_t *work, size_t
         plan.profit += 1;
     if (wrong("outside") && plan.number == 0)
         outputs[m] = 0;
-    return best_wrong_stages(c, (struct lent){work, n, outputs, m}, plan);
+    struct lent lent = {work, n, outputs, m};
+    return best_wrong_weeks(c, lent, best_wrong_stages(c, lent, plan));
 }
 
 /* What a list of T outputs would earn, whatever rules it breaks. */
@@ -398,6 +399,8 @@ struct giqapsun_plan giqapsun_best_by_calendar(struct giqapsun_case c, const uin
     int searched = number == 0 || number == 11;
     if (searched && (wrong("last") || wrong("hour") || wrong("own") || wrong("kept")))
         return wrong_day(c, &by);
+    if (number == 10)
+        return by_calendar_wrong_weeks(c, (struct lent){work, n, outputs, m}, plan);
     if (!searched)
         return untested(c, by, plan);
     if (wrong("left") && number == 11)

@@ -1,5 +1,5 @@
 /*
- * What the two parts of a wrong library share: the functions of a right one, the way in which this one is wrong, and
+ * What the three parts of a wrong library share: the functions of a right one, the way in which this one is wrong, and
  * what a file has at its head and at its end.
  */
 #include "giqapsun.h"
@@ -9,6 +9,7 @@
 struct giqapsun_reading right_read(const uint8_t *file, size_t n);
 struct giqapsun_written right_write(struct giqapsun_case c, uint8_t *bytes, size_t n);
 struct giqapsun_verdict right_check(struct giqapsun_case c, const uint16_t *list, size_t n);
+size_t right_work(struct giqapsun_case c);
 struct giqapsun_plan right_best(struct giqapsun_case c, int64_t *work, size_t n, uint16_t *outputs, size_t m);
 struct giqapsun_choice right_better(struct giqapsun_case c, const uint16_t *first, size_t n, const uint16_t *second,
                                     size_t m);
@@ -73,3 +74,11 @@ struct giqapsun_verdict check_wrong_stages(struct giqapsun_case c, const uint16_
 struct giqapsun_plan best_wrong_stages(struct giqapsun_case c, struct lent lent, struct giqapsun_plan right);
 struct giqapsun_choice choose_wrong_stages(struct giqapsun_case c, const uint16_t *first, const uint16_t *second,
                                            struct giqapsun_choice right);
+
+/* The answers of each call that is wrong about a week, about a long minimum time, or about the lent numbers. */
+struct giqapsun_reading read_wrong_weeks(const uint8_t *file, struct giqapsun_reading right);
+struct giqapsun_written write_wrong_weeks(const struct giqapsun_case *c, struct giqapsun_written right);
+struct giqapsun_verdict check_wrong_weeks(struct giqapsun_case c, const uint16_t *list,
+                                          struct giqapsun_verdict right);
+struct giqapsun_plan best_wrong_weeks(struct giqapsun_case c, struct lent lent, struct giqapsun_plan right);
+struct giqapsun_plan by_calendar_wrong_weeks(struct giqapsun_case c, struct lent lent, struct giqapsun_plan right);

@@ -1,5 +1,5 @@
-//! What each of the four calls answers (scope, "Refusal list" and "Rules of a list"; request F-2), and the text of the
-//! program (scope, "Known days").
+//! What each of the four calls answers (scope, "Refusal list" and "Rules of a list"; requests F-2 and F-6),
+//! how many working numbers a search is to be lent, and the text of the program (scope, "Known days").
 
 use crate::best::Plan;
 use crate::case::Case;
@@ -41,10 +41,10 @@ pub struct Schedule {
 }
 
 impl Schedule {
-    /// How many working numbers are set to 0: those that a search may ask for, if there was one.
-    pub fn zeroed_numbers(&self) -> usize {
+    /// How many working numbers are set to 0: those that a search of this case may ask for, if there was one.
+    pub fn zeroed_numbers(&self, case: &Case) -> usize {
         match self.number {
-            0 | 11 => refusals::WORKING_NUMBERS,
+            0 | 11 => refusals::working_numbers(case),
             _ => 0,
         }
     }
@@ -82,6 +82,11 @@ pub fn verdict(case: &Case, list: &[u16]) -> Verdict {
     }
 }
 
+/// How many working numbers a search of this record is to be lent, be the record refused or not.
+pub fn work(case: &Case) -> usize {
+    refusals::working_numbers(case)
+}
+
 /// The search tests 2 to 8 and 13, then 10, then 11: `search` found nothing.
 pub fn schedule(
     case: &Case,
@@ -99,21 +104,27 @@ pub fn schedule(
 }
 
 /// What the program prints for a file: the profit, then hour, output and half-megawatt-hours of
-/// each hour; or "refused" and the number.
+/// each hour; or "refused" and the number. It lends 8,192 working numbers.
 pub fn program_text(bytes: &[u8], search: impl FnOnce(&Case) -> Option<Plan>) -> String {
     const MOST_BYTES: usize = 4096;
-    let read = if bytes.len() > MOST_BYTES { Err(1) } else { file::read(bytes) };
-    match read.and_then(|case| search(&case).map(|plan| (case, plan)).ok_or(11)) {
-        Ok((case, plan)) => day_text(&case, &plan),
-        Err(number) => format!("refused {number}\n"),
+    const LENT_NUMBERS: usize = 8_192;
+    let Reading { number, case } =
+        if bytes.len() > MOST_BYTES { Reading { number: 1, case: Case::ZERO } } else { reading(bytes) };
+    let found = match number {
+        0 => schedule(&case, LENT_NUMBERS, case.t, search),
+        _ => Schedule { number, profit: 0, list: Vec::new() },
+    };
+    match found.number {
+        0 => day_text(&case, &found),
+        number => format!("refused {number}\n"),
     }
 }
 
 /// The lines of a found day.
-fn day_text(case: &Case, plan: &Plan) -> String {
-    let mut text = format!("profit {}\n", plan.profit);
+fn day_text(case: &Case, found: &Schedule) -> String {
+    let mut text = format!("profit {}\n", found.profit);
     let mut before = case.p0;
-    for (i, &output) in plan.list.iter().enumerate() {
+    for (i, &output) in found.list.iter().enumerate() {
         text += &format!("{} {} {}\n", i + 1, output, half_megawatt_hours(before, output));
         before = output;
     }

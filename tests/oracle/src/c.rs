@@ -8,7 +8,7 @@ use crate::pair;
 use std::slice;
 
 /// Bytes of the record, which goes by value.
-const _: () = assert!(std::mem::size_of::<Case>() == 336);
+const _: () = assert!(std::mem::size_of::<Case>() == 936);
 
 /// What reading gives.
 #[repr(C)]
@@ -81,6 +81,12 @@ pub unsafe extern "C" fn oracle_check(case: Case, list: *const u16, count: usize
     let answers::Verdict { number, hour, rule, profit } =
         answers::verdict(&case, slice::from_raw_parts(list, count));
     Verdict { number, hour, rule, profit }
+}
+
+/// How many numbers a search of this record is to be lent to work in.
+#[no_mangle]
+pub extern "C" fn oracle_work(case: Case) -> usize {
+    answers::work(&case)
 }
 
 /// Finds the best list of outputs, as if so many numbers were lent to work in.

@@ -2,9 +2,10 @@
 //! about the edges of the day and of the year, lists and days that are not as laid down, records that are refused.
 
 use crate::calendar::{Calendar, DAY_HOURS, YEAR_HOURS};
-use crate::case::{Case, FREE, OFF_LINE, ON_LINE};
+use crate::case::{Case, FREE, MOST_HOURS, OFF_LINE, ON_LINE};
 use crate::random::Rng;
 use crate::units::{full_day_of, long_day_of};
+use crate::weeks::long_time;
 use crate::wild::{change_count, fill_past_counts, set_near_limit};
 
 /// How large what is drawn is.
@@ -57,6 +58,9 @@ pub fn drawn(rng: &mut Rng, size: Size) -> Drawn {
     let gap = if size == Size::LongLists { hourly } else { few };
     let (on, off) = lists(rng, &case.orders[..hours.into()], first, gap);
     set_own_orders(rng, &mut case);
+    if rng.once_in(16) {
+        set_long_time(rng, &mut case);
+    }
     let mut drawn = Drawn { case, on, off, first, hours, begins: None };
     if rng.once_in(12) {
         put_in_one(rng, &mut drawn);
@@ -65,6 +69,16 @@ pub fn drawn(rng: &mut Rng, size: Size) -> Drawn {
     }
     change_record(rng, &mut drawn.case);
     drawn
+}
+
+/// Gives the unit a minimum time above 8 hours.
+fn set_long_time(rng: &mut Rng, case: &mut Case) {
+    let time = long_time(rng);
+    if rng.once_in(2) {
+        case.min_up = time;
+    } else {
+        case.min_down = time;
+    }
 }
 
 /// The first hour of a day: that of the year, the last that the day can have, one near either, or any.
@@ -202,7 +216,7 @@ fn change_record(rng: &mut Rng, case: &mut Case) {
     }
     match rng.below(40) {
         0..=2 => case.t = rng.pick(&[22, 23, 24, 25, 26]),
-        3 => case.t = rng.pick(&[1, 48, 65_536 + case.t, (1 << 32) + case.t]),
+        3 => case.t = rng.pick(&[1, 48, MOST_HOURS, 65_536 + case.t, (1 << 32) + case.t]),
         4 => change_count(rng, case),
         _ => {}
     }
@@ -304,8 +318,8 @@ fn damage_day(rng: &mut Rng, drawn: &mut Drawn) {
         drawn.first =
             rng.pick(&[past, past, past + 1, YEAR_HOURS as u16, u16::MAX - drawn.hours + 1, u16::MAX]);
     } else {
-        drawn.hours = rng.pick(&[22, 22, 26, 26, 0, 1, 48, 256 + 24, u16::MAX]);
-        if rng.once_in(2) && (1..=48).contains(&drawn.hours) {
+        drawn.hours = rng.pick(&[22, 22, 26, 26, 0, 1, 48, MOST_HOURS as u16, 256 + 24, u16::MAX]);
+        if rng.once_in(2) && (1..=MOST_HOURS as u16).contains(&drawn.hours) {
             drawn.case.t = drawn.hours.into();
         }
     }

@@ -1,12 +1,12 @@
 //! The case record (scope, "Case file"): the fields of a case and the counts UD, DD and T. Prices are signed 32-bit
 //! numbers of mills (request F-2), and so are the costs: 32 bits of a file of 2^31 or more are a cost below zero. A day
-//! may open inside a start or a stop (request F-5).
+//! may open inside a start or a stop (request F-5), and has up to a week of hours (request F-6).
 
 /// Most entries of a start-up or shut-down trajectory.
 pub const MOST_STAGES: usize = 8;
 
 /// Most hours of a day.
-pub const MOST_HOURS: usize = 48;
+pub const MOST_HOURS: usize = 168;
 
 /// An hour order: the unit is free, must be on-line or must be off-line.
 pub const FREE: u8 = 0;

@@ -7,6 +7,7 @@ use crate::random::Rng;
 use crate::refusals::{FORM, FORM_BEFORE, HOUR_BYTES, OLD_HOUR_BYTES, PAIR_BYTES};
 use crate::stages::small_staged;
 use crate::units::{clear_stages, full_day, longer_day, set_old, small_unit};
+use crate::weeks::locked_week;
 use crate::wild::set_near_limit;
 
 /// Form numbers that come up most: 512 and 768 are 2 and 3 with their bytes swapped, 258 and 259 are 2 and 3 with
@@ -42,11 +43,12 @@ pub fn damaged_file(rng: &mut Rng) -> Vec<u8> {
 
 /// A case within the limits.
 fn any_case(rng: &mut Rng) -> Case {
-    match rng.below(4) {
-        0 => small_unit(rng),
-        1 => longer_day(rng),
-        2 => small_staged(rng),
-        _ => full_day(rng),
+    match rng.below(8) {
+        0 | 1 => small_unit(rng),
+        2 | 3 => longer_day(rng),
+        4 | 5 => small_staged(rng),
+        6 => full_day(rng),
+        _ => locked_week(rng),
     }
 }
 
@@ -90,8 +92,8 @@ fn of_other_hours(rng: &mut Rng, case: &Case, form: Form) -> Vec<u8> {
     assemble(&parts)
 }
 
-/// The longest hours section, a byte or an hour beside it, hours that are 1 to 48 in 8 bits, the most bytes that a pair
-/// can name, and the most whole hours in a room.
+/// The longest hours section, a byte or an hour beside it, hours that are 1 to 168 in 8 bits, the most bytes
+/// that a pair can name, and the most whole hours in a room.
 fn length_to_count(rng: &mut Rng, size: usize, room: usize) -> usize {
     let longest = MOST_HOURS * size;
     match rng.below(7) {
@@ -191,8 +193,8 @@ fn section_length_near_limit(rng: &mut Rng, section: usize, old: bool) -> usize 
     match section {
         0 => rng.pick(&[0, 16, 30, 31, 32, 33, 34, 35, 36, 64]),
         1 | 2 => rng.pick(&[0, 1, 2, 3, 4, 15, 16, 17, 18, 32, 256, 258]),
-        3 if old => rng.pick(&[0, 1, 2, 3, 4, 5, 6, 142, 143, 144, 145, 146, 147, 288, 256, 768]),
-        3 => rng.pick(&[0, 1, 3, 4, 5, 6, 9, 10, 144, 235, 239, 240, 241, 245, 256, 480, 1_280]),
+        3 if old => rng.pick(&[0, 1, 2, 3, 4, 5, 6, 147, 502, 503, 504, 505, 506, 507, 1_008, 256, 768]),
+        3 => rng.pick(&[0, 1, 3, 4, 5, 6, 9, 10, 245, 504, 835, 839, 840, 841, 845, 256, 1_280, 1_680]),
         _ => rng.pick(&FORM_LENGTHS),
     }
 }

@@ -1,4 +1,5 @@
-//! The known days (scope, "Known days") and the source's day (Tables I to III).
+//! The known days (scope, "Known days"), the source's day (Tables I to III) and its longer cases (Table V;
+//! request F-6).
 
 use crate::case::{Case, FREE, OFF_LINE, ON_LINE};
 
@@ -183,12 +184,33 @@ pub fn source_day() -> Case {
     case
 }
 
-/// The source's 48-hour case: the price profile twice.
-pub fn source_two_days() -> Case {
-    let mut case = source_day();
-    set_prices(&mut case, &[SOURCE_PRICES, SOURCE_PRICES].concat());
-    case
+/// A row of Table V: how often the price profile is repeated, the printed profit in tenths of a dollar, and
+/// the best profit in half-mills.
+#[derive(Clone, Copy, Debug)]
+pub struct LongerCase {
+    pub days: usize,
+    pub tenths: i64,
+    pub profit: i64,
 }
 
-/// Profit of the 48-hour case in Table V, in tenths of a dollar.
-pub const TWO_DAYS_TENTHS: i64 = 391_395;
+/// The rows of 48, 96 and 168 hours.
+pub const TABLE_V: [LongerCase; 3] = [
+    LongerCase { days: 2, tenths: 391_395, profit: 78_279_049 },
+    LongerCase { days: 4, tenths: 838_716, profit: 167_743_223 },
+    LongerCase { days: 7, tenths: 1_509_697, profit: 301_939_484 },
+];
+
+impl LongerCase {
+    /// The case.
+    pub fn case(&self) -> Case {
+        let mut case = source_day();
+        set_prices(&mut case, &SOURCE_PRICES.repeat(self.days));
+        case
+    }
+
+    /// The least that the best list earns, in half-mills: the printed profit less 0.05 dollar. A tenth of a
+    /// dollar is 200 half-mills, and 0.05 dollar is 100.
+    pub fn least(&self) -> i64 {
+        200 * self.tenths - 100
+    }
+}

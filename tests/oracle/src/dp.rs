@@ -4,9 +4,11 @@
 //! (request F-5). It must be held against `best`.
 
 use crate::best::Plan;
-use crate::case::{Case, OFF_LINE, ON_LINE};
+use crate::case::{Case, MOST_STAGES, OFF_LINE, ON_LINE};
 use crate::profit::hour_profit;
 use crate::random::Rng;
+use crate::refusals::LONGEST_TIME;
+use std::collections::VecDeque;
 
 /// What the rest of the day depends on at the end of an hour.
 #[derive(Clone, Copy, Debug, PartialEq, Eq)]
@@ -95,15 +97,11 @@ fn stop_stage(case: &Case, j: usize) -> State {
     }
 }
 
-/// All states of a unit.
-fn all_states(case: &Case) -> Vec<State> {
-    let mut states: Vec<State> = (1..=usize::from(case.min_down)).map(State::Off).collect();
-    states.extend((1..case.ud).map(State::Rising));
-    for hours in 1..=hours_before_fall(case) {
-        states.extend((case.minimum..=case.capacity).map(|output| State::On(hours, output)));
-    }
-    states.extend((2..=case.dd).map(State::Falling));
-    states
+/// All states of a unit but those on-line between minimum output and capacity.
+fn states_beside(case: &Case) -> impl Iterator<Item = State> {
+    let off = (1..=usize::from(case.min_down)).map(State::Off);
+    let (rising, falling) = ((1..case.ud).map(State::Rising), (2..=case.dd).map(State::Falling));
+    off.chain(rising).chain(falling)
 }
 
 /// For one hour, the most that the hours after it can earn from each state; none if no list keeps
@@ -111,32 +109,46 @@ fn all_states(case: &Case) -> Vec<State> {
 struct Values {
     minimum: u16,
     outputs: usize,
-    off: [Option<i64>; 9],
-    rising: [Option<i64>; 9],
-    falling: [Option<i64>; 9],
+    off: [Option<i64>; LONGEST_TIME as usize + 1],
+    rising: [Option<i64>; MOST_STAGES + 1],
+    falling: [Option<i64>; MOST_STAGES + 1],
     on: Vec<Option<i64>>,
 }
 
 impl Values {
-    /// A table with no value in any state.
-    fn none(case: &Case) -> Values {
+    /// A table with the same value in every state, or none.
+    fn filled(case: &Case, value: Option<i64>) -> Values {
         let outputs = usize::from(case.capacity - case.minimum) + 1;
         Values {
             minimum: case.minimum,
             outputs,
-            off: [None; 9],
-            rising: [None; 9],
-            falling: [None; 9],
-            on: vec![None; outputs * (hours_before_fall(case) + 1)],
+            off: [value; LONGEST_TIME as usize + 1],
+            rising: [value; MOST_STAGES + 1],
+            falling: [value; MOST_STAGES + 1],
+            on: vec![value; outputs * (hours_before_fall(case) + 1)],
         }
     }
 
     /// The values at the end of hour T: a start or a stop may be cut by the end of the day.
     fn at_end(case: &Case) -> Values {
-        let mut values = Values::none(case);
-        for state in all_states(case) {
-            values.set(state, Some(0));
+        Values::filled(case, Some(0))
+    }
+
+    /// The values at the end of hour k - 1, from those at the end of hour k.
+    fn before(case: &Case, k: usize, after: &Values) -> Values {
+        let mut values = Values::filled(case, None);
+        for state in states_beside(case) {
+            values.set(state, value_before(case, k, state, after));
         }
+        let needed = hours_before_fall(case);
+        for hours in 1..=needed {
+            let on_line = values_on_line(case, k, (hours + 1).min(needed), after);
+            let row = values.place(hours, case.minimum);
+            values.on[row..row + on_line.len()].copy_from_slice(&on_line);
+        }
+        let lowest = State::On(needed, case.minimum);
+        let falls = value_of_step(case, k, lowest, stop_stage(case, 2), after);
+        values.set(lowest, values.get(lowest).max(falls));
         values
     }
 
@@ -195,16 +207,53 @@ fn value_before(case: &Case, k: usize, from: State, after: &Values) -> Option<i6
     best
 }
 
+/// The most that the hours from k on can earn from each on-line output at the end of hour k - 1, if the unit
+/// stays on-line between minimum output and capacity in hour k, which is then the on-line hour of this
+/// number.
+///
+/// What hour k earns from one output to another is a sum of two parts, one of each output alone: from an
+/// output to the minimum, and the margin for each megawatt above it. So the most of the second part and of
+/// what the rest earns is found once for every output that the ramps lead to, by `most_about`.
+fn values_on_line(case: &Case, k: usize, hours: usize, after: &Values) -> Vec<Option<i64>> {
+    if !keeps_order(case, k, case.minimum) {
+        return vec![None; after.outputs];
+    }
+    let margin = i64::from(case.prices[k - 1]) - i64::from(case.f);
+    let row = after.place(hours, case.minimum);
+    let rest = after.on[row..row + after.outputs].iter().zip(0..);
+    let gains: Vec<Option<i64>> = rest.map(|(rest, above)| rest.map(|rest| rest + margin * above)).collect();
+    let most = most_about(&gains, case.ramp_down.into(), case.ramp_up.into());
+    let to_minimum = |before: u16| hour_profit(case, k, before, case.minimum);
+    most.into_iter().zip(case.minimum..).map(|(gain, before)| Some(gain? + to_minimum(before))).collect()
+}
+
+/// For each place, the most among those from `below` places before it to `above` places after it. Places that
+/// come before a greater or equal one are left out as long as that one is in reach, so those that are kept
+/// fall.
+fn most_about(gains: &[Option<i64>], below: usize, above: usize) -> Vec<Option<i64>> {
+    let (mut kept, mut next) = (VecDeque::new(), 0);
+    let mut most = Vec::with_capacity(gains.len());
+    for place in 0..gains.len() {
+        while next < gains.len() && next <= place + above {
+            while kept.back().is_some_and(|&last: &usize| gains[last] <= gains[next]) {
+                kept.pop_back();
+            }
+            kept.push_back(next);
+            next += 1;
+        }
+        while kept[0] + below < place {
+            kept.pop_front();
+        }
+        most.push(gains[kept[0]]);
+    }
+    most
+}
+
 /// The values at the ends of hours 0 to T.
 fn all_values(case: &Case) -> Vec<Values> {
-    let states = all_states(case);
     let mut backwards = vec![Values::at_end(case)];
     for k in (1..=case.t).rev() {
-        let mut values = Values::none(case);
-        let after = &backwards[case.t - k];
-        for &state in &states {
-            values.set(state, value_before(case, k, state, after));
-        }
+        let values = Values::before(case, k, &backwards[case.t - k]);
         backwards.push(values);
     }
     backwards.reverse();

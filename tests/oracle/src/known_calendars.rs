@@ -7,7 +7,7 @@ use crate::calendar::Calendar;
 use crate::case::{Case, MOST_HOURS, OFF_LINE, ON_LINE};
 use crate::days::{known_unit, refused_cases, source_day, with_orders, SOURCE_LIST, SOURCE_PROFIT};
 use crate::opening::Opening;
-use crate::refusals::WORKING_NUMBERS;
+use crate::refusals::{MOST_WORKING_NUMBERS, WORKING_NUMBERS};
 use std::ops::RangeInclusive;
 
 /// A calendar with its answer.
@@ -33,14 +33,15 @@ impl KnownCalendar {
 }
 
 /// How many calendars there are.
-pub const COUNT: u64 = 458;
+pub const COUNT: u64 = 477;
 
 /// All calendars, by the sentences of the request.
 pub fn known_calendars() -> Vec<KnownCalendar> {
     let filled =
         [windows(), edges_of_the_day(), edges_of_the_year(), both_lists(), trajectories(), replaced()];
     let refused = [lists_not_as_laid_down(), days_not_as_laid_down(), in_both_lists(), other_hours()];
-    let first = [before_the_case(), refused_records(), short_memory(), inside_a_sequence()];
+    let first =
+        [before_the_case(), refused_records(), short_memory(), inside_a_sequence(), long_minimum_times()];
     [filled.concat(), refused.concat(), first.concat()].concat()
 }
 
@@ -400,6 +401,46 @@ fn inside_a_sequence() -> Vec<KnownCalendar> {
         refused("both stages", both, (&[], &[]), FIRST, 7),
         refused("both stages, an hour in both lists", both, (&[1_000, 1], &[1_000, 1]), FIRST, 15),
         refused_day("both stages, T 24 of 23", both, (&[], &[]), (FIRST, 23), 2),
+    ]
+}
+
+/// A week and long minimum times (request F-6). A day keeps its 23 to 25 hours: of 168 hours it is 14, and T
+/// 168 of 24 hours is 2. A minimum time of 9 asks for 32,768 working numbers, also where there is no list; 25
+/// is 4. With a minimum up time of 20 a start at hour 2, as ordered, stops at hour 22, for
+/// 20 * 2 + 6 + 4 = 50, and with one of 24 it stays on-line to hour 24, at 2, for 23 * 2 + 6 = 52; ordered
+/// off-line at hour 21 there is no list for 20.
+fn long_minimum_times() -> Vec<KnownCalendar> {
+    let (off, on) = (known_unit(0, &[10; 24]), known_unit(2, &[10; 24]));
+    let up = |time: u16, case: Case| Case { min_up: time, ..case };
+    let (nine, eight) = (up(9, off), up(8, off));
+    let (free, none): (Lists, Lists) = ((&[], &[]), (&[], &[1_000, 1]));
+    let idle = |name, case, numbers| with_memory(found(name, case, free, vec![0; 24], 0), numbers, 24);
+    let short = |name, case, lists, numbers| with_memory(refused(name, case, lists, FIRST, 10), numbers, 24);
+    let start: Lists = (&[1_001, 1], &[1_000, 1]);
+    let run = [&[0, 1][..], &[2; 18], &[1, 0, 0, 0]].concat();
+    let kept = [&[0, 1][..], &[2; 22]].concat();
+    let large = |row: KnownCalendar| with_memory(row, MOST_WORKING_NUMBERS, 24);
+    let late: Lists = (&[1_001, 1], &[1_000, 1, 1_020, 1]);
+    vec![
+        refused("a day of 168 hours", known_unit(0, &[10; 168]), free, FIRST, 14),
+        refused_day("T 168 of 24", known_unit(0, &[10; 168]), free, (FIRST, 24), 2),
+        refused_day("T 169 of 24", with_t(off, 169), free, (FIRST, 24), 2),
+        refused("minimum up time 25", up(25, off), free, FIRST, 4),
+        refused("minimum down time 25", Case { min_down: 25, ..off }, free, FIRST, 4),
+        idle("minimum up time 8, 8,192 numbers", eight, 8_192),
+        idle("minimum up time 8, 32,769 numbers", eight, 32_769),
+        short("minimum up time 8, 8,191 numbers", eight, free, 8_191),
+        short("minimum up time 9, 8,192 numbers", nine, free, 8_192),
+        short("minimum up time 9, 32,767 numbers", nine, free, 32_767),
+        idle("minimum up time 9, 32,768 numbers", nine, 32_768),
+        idle("minimum up time 9, 32,769 numbers", nine, 32_769),
+        short("minimum down time 9, 32,767 numbers", Case { min_down: 9, ..off }, free, 32_767),
+        short("minimum up time 9, 32,767 numbers and no list", up(9, on), none, 32_767),
+        large(refused("minimum up time 9 and no list", up(9, on), none, FIRST, 11)),
+        large(found("20 hours of a minimum of 20", up(20, off), start, run, -50)),
+        large(found("the rest of the day of a minimum of 24", up(24, off), start, kept, -52)),
+        large(refused("off-line after 19 hours", up(20, off), late, FIRST, 11)),
+        with_memory(refused("minimum up time 25, no memory", up(25, off), free, FIRST, 4), 0, 0),
     ]
 }
 

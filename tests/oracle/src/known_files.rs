@@ -1,5 +1,6 @@
-//! Files of the three forms with the answer of reading, worked out by hand (scope, "Case file" and "Refusal list";
-//! requests F-2, F-4 and F-5). All are made from three: case 7 of the known days in each form, byte by byte.
+//! Files of the three forms with the answer of reading, worked out by hand (scope, "Case file" and "Refusal
+//! list"; requests F-2, F-4, F-5 and F-6). All are made from three: case 7 of the known days in each form,
+//! byte by byte.
 
 use crate::case::Case;
 use crate::days::{known_unit, program_example};
@@ -55,7 +56,7 @@ pub const FORM_3: [u8; 79] = [
 ];
 
 /// How many files there are.
-pub const COUNT: u64 = 478;
+pub const COUNT: u64 = 534;
 
 /// A file of case 7, with the bytes of its unit and of an hour.
 #[derive(Clone, Copy)]
@@ -77,6 +78,11 @@ const WHOLE: [Whole; 3] = [OLD_FILE, FILE_2, FILE_3];
 const FIVE: [Whole; 2] = [FILE_2, FILE_3];
 
 impl Whole {
+    /// Places: a minimum time, up or down.
+    fn time_at(&self, time: usize) -> usize {
+        self.unit_at() + 8 + 2 * time
+    }
+
     /// Places: the unit's section, which begins with the capacity; a cost of F, A, B, C; p(0); the stages; the hours.
     fn unit_at(&self) -> usize {
         4 * self.pairs
@@ -158,6 +164,7 @@ fn made() -> Vec<KnownFile> {
         prices(),
         stages(),
         hour_counts(),
+        minimum_times(),
     ]
     .concat()
 }
@@ -305,7 +312,7 @@ fn lengths() -> Vec<KnownFile> {
         ("unit", 0, &[0, 16, 30, 31, 33, 35, 36, 64]),
         ("start-up", 1, &[0, 1, 3, 17, 18]),
         ("shut-down", 2, &[0, 1, 3, 17, 18]),
-        ("hours", 3, &[0, 1, 4, 14, 16, 241]),
+        ("hours", 3, &[0, 1, 4, 14, 16, 841]),
         ("form", 4, &[0, 1, 3, 4, 258]),
     ];
     let mut files = Vec::new();
@@ -491,22 +498,22 @@ pub fn of_length(bytes: usize) -> [Vec<u8>; 3] {
     WHOLE.map(|file| file.of_hours(bytes))
 }
 
-/// Hours sections that may be counted wrong; each hour has a price of its own, so that one lost or taken twice shows.
-/// Of 1 to 48 whole hours they are read: 3 to 144 bytes in the old form, 5 to 240 in the others. Any other length is 2:
-/// a byte short of one hour or past it; a byte or two short of 48 hours or past them; 49 hours; 257, 280 and 304 hours,
-/// which are 1, 24 and 48 in 8 bits.
+/// Hours sections that may be counted wrong; each hour has a price of its own, so that one lost or taken
+/// twice shows. Of 1 to 168 whole hours they are read: 3 to 504 bytes in the old form, 5 to 840 in the
+/// others. Any other length is 2: a byte short of one hour or past it; a byte or two short of 168 hours or
+/// past them; 169 hours; 255 and 256 hours; 257, 280 and 424 hours, which are 1, 24 and 168 in 8 bits.
 ///
-/// An old file ends at 56 + bytes, and 65,478 to 65,480 bytes make it 65,534 to 65,536 long. 65,535 bytes, the most
-/// that a pair can name, are 21,845 hours, and 65,534 are a byte short of them. All of these are 2. A file of form 2
-/// ends at 62 + bytes, and 65,472 to 65,474 make it as long; its fifth offset is 60 + bytes, that is 65,535 after
-/// 65,475 bytes, which are 13,095 hours and so 2. A file of form 3 ends at 64 + bytes, and 65,470 to 65,472 make it as
-/// long; of these 65,470 are 13,094 hours; its fifth offset is 62 + bytes, that is 65,535 after 65,473 bytes. After a
-/// byte more, and after 65,535 bytes, which are 13,107 hours, that offset does not fit in 16 bits: 1. Form number 4
-/// changes nothing, since 12 comes after 1 and 2.
+/// An old file ends at 56 + bytes, and 65,478 to 65,480 bytes make it 65,534 to 65,536 long. 65,535 bytes,
+/// the most that a pair can name, are 21,845 hours, and 65,534 are a byte short of them. All of these are 2.
+/// A file of form 2 ends at 62 + bytes, and 65,472 to 65,474 make it as long; its fifth offset is 60 + bytes,
+/// that is 65,535 after 65,475 bytes, which are 13,095 hours and so 2. A file of form 3 ends at 64 + bytes,
+/// and 65,470 to 65,472 make it as long; of these 65,470 are 13,094 hours; its fifth offset is 62 + bytes,
+/// that is 65,535 after 65,473 bytes. After a byte more, and after 65,535 bytes, which are 13,107 hours, that
+/// offset does not fit in 16 bits: 1. Form number 4 changes nothing, since 12 comes after 1 and 2.
 fn hour_counts() -> Vec<KnownFile> {
     let mut files = Vec::new();
     for file in WHOLE {
-        for hours in [1, 2, 47, 48] {
+        for hours in [1, 2, 47, 48, 49, 96, 167, 168] {
             let sign = if file.pairs == 4 { 1 } else { -1 };
             let day: Vec<i32> = (1..=hours).map(|k| sign * k).collect();
             let form = if file.unit == 34 { 3 } else { 2 };
@@ -524,9 +531,9 @@ fn hour_counts() -> Vec<KnownFile> {
         (FILE_3, 4, &[65_470, 65_471, 65_472, 65_473], &[65_474, 65_535]),
     ];
     for (file, form, refused_by_2, refused_by_1) in long {
-        let (hour, most) = (file.hour, 48 * file.hour);
+        let (hour, most) = (file.hour, 168 * file.hour);
         let short = [hour - 1, hour + 1, most - 2, most - 1, most + 1, most + 2, most + hour];
-        let in_8_bits = [257 * hour, 280 * hour, 304 * hour];
+        let in_8_bits = [255, 256, 257, 280, 424].map(|hours| hours * hour);
         let named = |bytes: usize, number: u32| {
             let name = format!("{} as {form}, hours of {bytes} bytes", file.name);
             refused(name, file.of_day(bytes, form), number)
@@ -534,6 +541,28 @@ fn hour_counts() -> Vec<KnownFile> {
         let counted = short.iter().chain(&in_8_bits).chain(refused_by_2);
         files.extend(counted.map(|&bytes| named(bytes, 2)));
         files.extend(refused_by_1.iter().map(|&bytes| named(bytes, 1)));
+    }
+    files
+}
+
+/// Minimum times, which every form holds in the same place: 8, 9 and 24 are read; 0 and 25 are 4, and so is
+/// 264, which is 8 in 8 bits.
+fn minimum_times() -> Vec<KnownFile> {
+    let mut files = Vec::new();
+    for file in WHOLE {
+        for (i, name) in ["up", "down"].into_iter().enumerate() {
+            for time in [8u16, 9, 24, 0, 25, 264] {
+                let bytes = file.with(file.time_at(i), &time.to_le_bytes());
+                let mut case = program_example();
+                *[&mut case.min_up, &mut case.min_down][i] = time;
+                let answer = if (1..=24).contains(&time) { Ok(case) } else { Err(4) };
+                files.push(KnownFile {
+                    name: format!("{}, minimum {name} time {time}", file.name),
+                    bytes,
+                    answer,
+                });
+            }
+        }
     }
     files
 }

@@ -1,8 +1,8 @@
-//! The independent scheduler: the day scheduler for one thermal unit, written a second time
-//! from the papers alone. "The scope" in the comments is the paper "The day scheduler for one
-//! thermal unit"; "the source" is the Arroyo and Conejo paper, whose constraints carry numbers;
-//! request F-1 is the one for two suppliers' lists side by side, F-2 the one for prices below zero, F-3 the one for
-//! the outage and must-run calendar, F-5 the one for days that open and close inside a sequence.
+//! The independent scheduler: the day scheduler for one thermal unit, written a second time from the papers
+//! alone. "The scope" in the comments is the paper "The day scheduler for one thermal unit"; "the source" is
+//! the Arroyo and Conejo paper, whose constraints carry numbers; request F-1 is the one for two suppliers'
+//! lists side by side, F-2 the one for prices below zero, F-3 the one for the outage and must-run calendar,
+//! F-5 the one for days that open and close inside a sequence, F-6 the one for a week ahead.
 
 // What the papers say.
 pub mod answers;
@@ -18,6 +18,7 @@ pub mod known_files;
 pub mod known_pairs;
 pub mod known_prices;
 pub mod known_stages;
+pub mod known_weeks;
 pub mod opening;
 pub mod pair;
 pub mod profit;
@@ -32,4 +33,5 @@ pub mod pairs;
 pub mod random;
 pub mod stages;
 pub mod units;
+pub mod weeks;
 pub mod wild;

@@ -1,7 +1,8 @@
 //! Random lists to be checked: days that a unit can run or nearly can, and anything else.
 
-use crate::case::Case;
+use crate::case::{Case, MOST_HOURS};
 use crate::random::Rng;
+use crate::refusals::SHORT_TIME;
 
 /// A list of T outputs, or once in a while of another number of outputs.
 pub fn any_list(rng: &mut Rng, case: &Case) -> Vec<u16> {
@@ -22,7 +23,7 @@ pub fn any_list(rng: &mut Rng, case: &Case) -> Vec<u16> {
 /// A list of any outputs for a record that may break every limit; of T outputs where T is a count
 /// of hours.
 pub fn wild_list(rng: &mut Rng, case: &Case) -> Vec<u16> {
-    let count = if case.t <= 60 { case.t } else { rng.place(0, 60) };
+    let count = if case.t <= MOST_HOURS + 12 { case.t } else { rng.place(0, MOST_HOURS + 12) };
     let mut list: Vec<u16> = (0..count).map(|_| rng.bits() as u16 >> rng.below(16)).collect();
     if rng.once_in(4) {
         change_length(rng, &mut list);
@@ -37,7 +38,7 @@ pub fn walk(rng: &mut Rng, case: &Case) -> Vec<u16> {
     let (mut list, mut output) = rest_of_opening(case);
     while list.len() < case.t {
         if output == 0 {
-            list.resize(list.len() + rng.place(0, 6), 0);
+            list.resize(list.len() + hours_of_run(rng, 6, case.min_down), 0);
             list.extend(&case.pu[..case.ud]);
             output = case.minimum;
         } else {
@@ -66,7 +67,7 @@ fn rest_of_opening(case: &Case) -> (Vec<u16>, u16) {
 /// output. The run may have no hour at all, so that a start and a stop meet.
 fn on_line_run(rng: &mut Rng, case: &Case, first: u16, list: &mut Vec<u16>) -> u16 {
     let mut output = first;
-    for _ in 0..rng.place(0, 8) {
+    for _ in 0..hours_of_run(rng, 8, case.min_up) {
         let lowest = output.saturating_sub(case.ramp_down).max(case.minimum);
         let highest = output.saturating_add(case.ramp_up).min(case.capacity);
         output = rng.between16(lowest, highest);
@@ -77,6 +78,11 @@ fn on_line_run(rng: &mut Rng, case: &Case, first: u16, list: &mut Vec<u16>) -> u
         list.push(output);
     }
     output
+}
+
+/// Hours of a run: few, or up to a few more than a long minimum time.
+fn hours_of_run(rng: &mut Rng, few: usize, time: u16) -> usize {
+    rng.place(0, if time > SHORT_TIME { usize::from(time) + 2 } else { few })
 }
 
 /// Changes one to three outputs: by one, to 0, to a limit or to any 16-bit number.
@@ -120,6 +126,6 @@ pub fn change_length(rng: &mut Rng, list: &mut Vec<u16>) {
         0 => list.truncate(list.len().saturating_sub(1)),
         1 => list.push(0),
         2 => list.clear(),
-        _ => list.resize(rng.place(0, 100), 7),
+        _ => list.resize(rng.place(0, 2 * MOST_HOURS), 7),
     }
 }

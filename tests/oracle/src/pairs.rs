@@ -7,14 +7,17 @@ use crate::lists::{any_list, change_length, disturb, walk};
 use crate::random::Rng;
 use crate::refusals::PRICES;
 use crate::units::{full_day, long_day, longer_day, set_no_margin, set_one_price, short_day, small_unit};
+use crate::weeks::{locked_week, small_locked};
 
 /// A case within the limits; in two of five an output earns nothing, in one all hours have one price.
 pub fn case_of_pairs(rng: &mut Rng) -> Case {
     let mut case = match rng.below(300) {
         0 => full_day(rng),
         1..=10 => short_day(rng),
-        11..=40 => long_day(rng),
+        11..=37 => long_day(rng),
+        38..=40 => locked_week(rng),
         41..=110 => longer_day(rng),
+        111..=130 => small_locked(rng),
         _ => small_unit(rng),
     };
     match rng.below(5) {

@@ -1,6 +1,7 @@
-//! The refusal list (scope, "Refusal list"), numbers 1 to 10, with 12 and 13 of request F-2 and the stages of request
-//! F-5 in 7. The order of the tests is 1, 2, 12, 3 to 8, 13, 9, 10. Number 11 is the answer of a search that found
-//! nothing, and stands in `answers`; 14 and 15 of request F-3 stand in `calendar`.
+//! The refusal list (scope, "Refusal list"), numbers 1 to 10, with 12 and 13 of request F-2, the stages of
+//! request F-5 in 7, and the hours, minimum times and working numbers of request F-6. The order of the tests
+//! is 1, 2, 12, 3 to 8, 13, 9, 10. Number 11 is the answer of a search that found nothing, and stands in
+//! `answers`; 14 and 15 of request F-3 stand in `calendar`.
 
 use crate::case::{Case, MOST_HOURS, MOST_STAGES, OFF_LINE};
 use std::ops::RangeInclusive;
@@ -8,8 +9,13 @@ use std::ops::RangeInclusive;
 /// Nothing, or the number of the refusal that applies.
 pub type Test = Result<(), u32>;
 
-/// Working numbers that a search may ask for.
-pub const WORKING_NUMBERS: usize = 8192;
+/// Longest minimum times, in hours: with which the fewer working numbers do, and of any unit.
+pub const SHORT_TIME: u16 = 8;
+pub const LONGEST_TIME: u16 = 24;
+
+/// Working numbers that a search may ask for: where both minimum times are short, and where one is longer.
+pub const WORKING_NUMBERS: usize = 8_192;
+pub const MOST_WORKING_NUMBERS: usize = 32_768;
 
 /// Most hours that the unit has been on-line or off-line before hour 1.
 pub const HOURS_IN_STATE: u16 = 10_000;
@@ -118,13 +124,13 @@ fn output_limits(case: &Case) -> Test {
     refuse_if(case.minimum == 0 || case.minimum > case.capacity || case.capacity > 400, 3)
 }
 
-/// Refusal 4: RU or RD outside 1 to 400, or a minimum time outside 1 to 8.
+/// Refusal 4: RU or RD outside 1 to 400, or a minimum time outside 1 to 24.
 fn ramps_and_times(case: &Case) -> Test {
     for ramp in [case.ramp_up, case.ramp_down] {
         refuse_if(!(1..=400).contains(&ramp), 4)?;
     }
     for time in [case.min_up, case.min_down] {
-        refuse_if(!(1..=8).contains(&time), 4)?;
+        refuse_if(!(1..=LONGEST_TIME).contains(&time), 4)?;
     }
     Ok(())
 }
@@ -198,9 +204,18 @@ pub fn list_length(case: &Case, outputs: usize) -> Test {
     refuse_if(outputs != case.t, 9)
 }
 
-/// Refusal 10 of a search: fewer than 8,192 working numbers, or fewer than T outputs.
-pub fn search_memory(case: &Case, working_numbers: usize, outputs: usize) -> Test {
-    refuse_if(working_numbers < WORKING_NUMBERS || outputs < case.t, 10)
+/// Working numbers that a search of this record may ask for, by its minimum times alone.
+pub fn working_numbers(case: &Case) -> usize {
+    if case.min_up <= SHORT_TIME && case.min_down <= SHORT_TIME {
+        WORKING_NUMBERS
+    } else {
+        MOST_WORKING_NUMBERS
+    }
+}
+
+/// Refusal 10 of a search: fewer working numbers than it may ask for, or fewer than T outputs.
+pub fn search_memory(case: &Case, lent_numbers: usize, outputs: usize) -> Test {
+    refuse_if(lent_numbers < working_numbers(case) || outputs < case.t, 10)
 }
 
 /// Refusal 10 of writing: fewer bytes than the written file has.

@@ -17,7 +17,7 @@ const RULES_AFTER_DAY: [u32; 1] = [21];
 /// after it. The sums reach back to hour 0 - UD + 1 and ahead to hour T + UD + DD - 2.
 const MARGIN: usize = 2 * MOST_STAGES;
 
-/// Marks of hours from -MARGIN to 48 + MARGIN.
+/// Marks of hours from -MARGIN to 168 + MARGIN.
 type Marks = [i64; MARGIN + MOST_HOURS + 1 + MARGIN];
 
 /// The place of a breach.
@@ -112,7 +112,7 @@ impl<'a> Day<'a> {
     /// Marks the stop after T that has reached this stage, at hour T + DD + 1 - i, or none.
     pub fn set_closing(&mut self, closing: Option<usize>) {
         let after = MARGIN + self.case.t + 1;
-        self.z[after..].fill(0);
+        self.z[after..after + self.case.dd].fill(0);
         if let Some(stage) = closing {
             self.z[after + self.case.dd - stage] = 1;
         }
@@ -253,15 +253,15 @@ impl<'a> Day<'a> {
     /// Rule 21: a stop at k comes the minimum up time or more after the latest start before it,
     /// or, with no such start, h + k - 1 is that long.
     fn rule_21(&self, k: i64) -> bool {
-        let latest_start = (1 - self.ud()..k).rev().find(|&s| self.y(s) == 1);
-        self.z(k) == 0 || self.time_since(latest_start, k) >= i64::from(self.case.min_up)
+        let latest_start = || (1 - self.ud()..k).rev().find(|&s| self.y(s) == 1);
+        self.z(k) == 0 || self.time_since(latest_start(), k) >= i64::from(self.case.min_up)
     }
 
     /// Rule 22: a start at k comes the minimum down time or more after the latest stop before it,
     /// or, with no such stop, h + k - 1 is that long.
     fn rule_22(&self, k: i64) -> bool {
-        let latest_stop = (1..k).rev().find(|&c| self.z(c) == 1);
-        self.y(k) == 0 || self.time_since(latest_stop, k) >= i64::from(self.case.min_down)
+        let latest_stop = || (1..k).rev().find(|&c| self.z(c) == 1);
+        self.y(k) == 0 || self.time_since(latest_stop(), k) >= i64::from(self.case.min_down)
     }
 
     /// Hours from the latest change to hour k; with no such change, h + k - 1.

@@ -1,13 +1,13 @@
 //! Random cases within the limits: small units for trying every list, longer days for trying every
-//! commitment, long days of small units and full-size days. In three of four prices may lie below zero and above 65,535
-//! mills (request F-2), and one in four of the units that have stages for it opens inside a start or a stop (request
-//! F-5).
+//! commitment, long days of small units and full-size days, all with minimum times of up to 8 hours. In three
+//! of four prices may lie below zero and above 65,535 mills (request F-2), and one in four of the units that
+//! have stages for it opens inside a start or a stop (request F-5).
 
 use crate::case::{Case, FREE, MOST_HOURS, OFF_LINE, ON_LINE};
 use crate::file::OLD_PRICES;
 use crate::lists::walk;
 use crate::random::Rng;
-use crate::refusals::{HOURS_IN_STATE, PRICES};
+use crate::refusals::{HOURS_IN_STATE, PRICES, SHORT_TIME};
 
 /// Largest capacity of a small unit for T from 1 to 9, so that (capacity + 2)^T stays below 20,000; and of a smaller
 /// one for T from 1 to 7, below 2,500.
@@ -50,6 +50,9 @@ fn small_unit_up_to(rng: &mut Rng, t: usize, most: u16) -> Case {
     unit(rng, t, minimum, capacity, money)
 }
 
+/// Most hours of a day that is not drawn with another number of them.
+const DAY_HOURS: usize = 48;
+
 /// A longer day with few outputs from minimum to capacity, for trying every commitment.
 pub fn longer_day(rng: &mut Rng) -> Case {
     let t = rng.place(6, 13);
@@ -67,7 +70,7 @@ pub fn longer_day(rng: &mut Rng) -> Case {
 
 /// A day of up to 48 hours with a small capacity, so that many of them take little time.
 pub fn long_day(rng: &mut Rng) -> Case {
-    let t = rng.place(10, MOST_HOURS);
+    let t = rng.place(10, DAY_HOURS);
     long_day_of(rng, t, 40)
 }
 
@@ -79,6 +82,14 @@ pub fn long_day_of(rng: &mut Rng, t: usize, most: u16) -> Case {
     unit(rng, t, minimum, capacity, money)
 }
 
+/// A day of T hours with few outputs from minimum to capacity.
+pub fn narrow_day_of(rng: &mut Rng, t: usize) -> Case {
+    let minimum = rng.between16(1, 12);
+    let capacity = minimum + rng.between16(0, 3);
+    let money = rng.pick(&[Money::Even, Money::Ties, Money::Small]);
+    unit(rng, t, minimum, capacity, money)
+}
+
 /// A few hours of a large unit.
 pub fn short_day(rng: &mut Rng) -> Case {
     let (t, capacity) = (rng.place(1, 4), rng.between16(260, 400));
@@ -87,9 +98,9 @@ pub fn short_day(rng: &mut Rng) -> Case {
     unit(rng, t, minimum, capacity, money)
 }
 
-/// A day of any size within the limits.
+/// A day of up to 48 hours of a unit of any size.
 pub fn full_day(rng: &mut Rng) -> Case {
-    let t = if rng.once_in(3) { MOST_HOURS } else { rng.place(1, MOST_HOURS) };
+    let t = if rng.once_in(3) { DAY_HOURS } else { rng.place(1, DAY_HOURS) };
     full_day_of(rng, t)
 }
 
@@ -112,8 +123,8 @@ pub fn full_day_of(rng: &mut Rng, t: usize) -> Case {
     unit(rng, t, minimum, capacity, money)
 }
 
-/// 48 hours of a unit of 400 MW with costs and prices at their limits, in some hours next to them or near zero; once in
-/// two times ordered on-line all day.
+/// 168 hours of a unit of 400 MW with costs and prices at their limits, in some hours next to them or near
+/// zero; once in two times ordered on-line all day.
 pub fn limit_day(rng: &mut Rng) -> Case {
     let minimum = rng.pick(&[1, 2, 100, 200, 399, 400]);
     let mut case = unit(rng, MOST_HOURS, minimum, 400, Money::Extreme);
@@ -162,7 +173,7 @@ fn minimum_time(rng: &mut Rng) -> u16 {
     match rng.below(3) {
         0 => 1,
         1 => rng.between16(1, 4),
-        _ => rng.between16(1, 8),
+        _ => rng.between16(1, SHORT_TIME),
     }
 }
 

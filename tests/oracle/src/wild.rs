@@ -3,15 +3,18 @@
 
 use crate::case::{Case, MOST_HOURS, MOST_STAGES};
 use crate::random::Rng;
-use crate::refusals::{HOURS_IN_STATE, PRICES};
+use crate::refusals::{HOURS_IN_STATE, LONGEST_TIME, PRICES, SHORT_TIME};
 use crate::stages::small_staged;
 use crate::units::{full_day, small_unit};
+use crate::weeks::{locked_week, small_locked};
 
 /// A case within the limits that is then changed in some way.
 pub fn wild_record(rng: &mut Rng) -> Case {
-    let mut case = match rng.below(40) {
+    let mut case = match rng.below(80) {
         0 => full_day(rng),
-        1..=15 => small_staged(rng),
+        1 => locked_week(rng),
+        2..=31 => small_staged(rng),
+        32..=41 => small_locked(rng),
         _ => small_unit(rng),
     };
     match rng.below(10) {
@@ -53,7 +56,7 @@ fn any_record(rng: &mut Rng) -> Case {
         down_stage: rng.bits() as u8,
         ..Case::ZERO
     };
-    (case.ud, case.dd, case.t) = (rng.place(1, 8), rng.place(1, 8), rng.place(1, 48));
+    (case.ud, case.dd, case.t) = (rng.place(1, 8), rng.place(1, 8), rng.place(1, MOST_HOURS));
     fill_from(rng, &mut case, 0, 0, 0);
     if rng.once_in(2) {
         change_count(rng, &mut case);
@@ -80,7 +83,7 @@ pub fn change_count(rng: &mut Rng, case: &mut Case) {
     let any = rng.bits() as usize;
     let far = [0, usize::MAX, usize::MAX - 1, 1 << 63, 1 << 32, (1 << 32) + 1, 256, 65_536, 65_537, any];
     let stages = [1, 2, MOST_STAGES - 1, MOST_STAGES, MOST_STAGES + 1, 16, rng.pick(&far)];
-    let hours = [1, 2, MOST_HOURS - 1, MOST_HOURS, MOST_HOURS + 1, 96, rng.pick(&far)];
+    let hours = [1, 2, MOST_HOURS - 1, MOST_HOURS, MOST_HOURS + 1, 336, rng.pick(&far)];
     match rng.below(4) {
         0 => case.ud = rng.pick(&stages),
         1 => case.dd = rng.pick(&stages),
@@ -99,8 +102,8 @@ pub fn set_near_limit(rng: &mut Rng, case: &mut Case) {
         1 => case.minimum = rng.pick(&[0, 1, case.capacity, case.capacity.saturating_add(1), 65_535]),
         2 => case.ramp_up = near_limits(rng, 1, 400),
         3 => case.ramp_down = near_limits(rng, 1, 400),
-        4 => case.min_up = near_limits(rng, 1, 8),
-        5 => case.min_down = near_limits(rng, 1, 8),
+        4 => case.min_up = near_time_limit(rng),
+        5 => case.min_down = near_time_limit(rng),
         6 => case.f = near_limit32(rng, 1_000_000),
         7 => case.a = near_limit32(rng, 100_000_000),
         8 => case.b = near_limit32(rng, 100_000_000),
@@ -146,6 +149,14 @@ fn near_limits(rng: &mut Rng, low: u16, high: u16) -> u16 {
     } else {
         rng.pick(&beside)
     }
+}
+
+/// A minimum time at or next to a limit, or next to the longest short one.
+fn near_time_limit(rng: &mut Rng) -> u16 {
+    if rng.once_in(3) {
+        return rng.pick(&[SHORT_TIME, SHORT_TIME + 1]);
+    }
+    near_limits(rng, 1, LONGEST_TIME)
 }
 
 /// A cost at, below or above a limit, below zero or far off.

@@ -1,24 +1,28 @@
-//! The library's C boundary: structs by value, slices as pointer and length. The names end in 3, the number of
-//! the record's layout.
+//! The library's C boundary: structs by value, slices as pointer and length. The names end in 4, the number
+//! of the record's layout.
 
 use oracle::c::{Choice, Plan, Reading, Verdict, Written};
 use oracle::case::Case;
 
 extern "C" {
     /// Reads a case from the bytes of a file.
-    #[link_name = "giqapsun_read_3"]
+    #[link_name = "giqapsun_read_4"]
     pub fn giqapsun_read(file: *const u8, count: usize) -> Reading;
 
     /// Writes a case as the bytes of a file.
-    #[link_name = "giqapsun_write_3"]
+    #[link_name = "giqapsun_write_4"]
     pub fn giqapsun_write(case: Case, bytes: *mut u8, count: usize) -> Written;
 
     /// Checks a list of outputs.
-    #[link_name = "giqapsun_check_3"]
+    #[link_name = "giqapsun_check_4"]
     pub fn giqapsun_check(case: Case, list: *const u16, count: usize) -> Verdict;
 
+    /// How many numbers a search of this record is to be lent to work in.
+    #[link_name = "giqapsun_work_4"]
+    pub fn giqapsun_work(case: Case) -> usize;
+
     /// Finds the best list of outputs.
-    #[link_name = "giqapsun_best_3"]
+    #[link_name = "giqapsun_best_4"]
     pub fn giqapsun_best(
         case: Case,
         work: *mut i64,
@@ -28,7 +32,7 @@ extern "C" {
     ) -> Plan;
 
     /// Finds the best list of outputs of the day that a calendar fills.
-    #[link_name = "giqapsun_best_by_calendar_3"]
+    #[link_name = "giqapsun_best_by_calendar_4"]
     pub fn giqapsun_best_by_calendar(
         case: Case,
         on: *const u16,
@@ -44,7 +48,7 @@ extern "C" {
     ) -> Plan;
 
     /// Compares two lists of outputs.
-    #[link_name = "giqapsun_better_3"]
+    #[link_name = "giqapsun_better_4"]
     pub fn giqapsun_better(
         case: Case,
         first: *const u16,

@@ -1,9 +1,10 @@
-//! Each of the six calls, made twice in guarded memory filled with random numbers, and compared with
+//! Each of the seven calls, made twice in guarded memory filled with random numbers, and compared with
 //! the answer of the independent scheduler: the answer itself and every lent number.
 
 use crate::board::Board;
 use crate::boundary::{
-    giqapsun_best, giqapsun_best_by_calendar, giqapsun_better, giqapsun_check, giqapsun_read, giqapsun_write,
+    giqapsun_best, giqapsun_best_by_calendar, giqapsun_better, giqapsun_check, giqapsun_read, giqapsun_work,
+    giqapsun_write,
 };
 use crate::guard::{Lent, Placement, Region, PLACEMENTS};
 use oracle::answers::{self, Reading, Schedule, Verdict};
@@ -21,6 +22,7 @@ pub enum Name {
     Read,
     Write,
     Check,
+    Work,
     Best,
     ByCalendar,
     Better,
@@ -34,6 +36,7 @@ impl Name {
             Name::Read => "read",
             Name::Write => "write",
             Name::Check => "check",
+            Name::Work => "work",
             Name::Best => "best",
             Name::ByCalendar => "best_by_calendar",
             Name::Better => "better",
@@ -137,6 +140,7 @@ impl<'a> Call<'a> {
             Name::Read => format!("giqapsun_read of {lent} bytes {place}"),
             Name::Write => format!("giqapsun_write into {lent} bytes {place}"),
             Name::Check => format!("giqapsun_check of {lent} outputs {place}"),
+            Name::Work => format!("giqapsun_work of a record {place}"),
             Name::Best => {
                 format!("giqapsun_best with {} numbers and {lent} outputs, each {place}", self.work)
             }
@@ -186,7 +190,7 @@ impl Memory {
             first: Region::new(7),
             second: Region::new(4),
             cases: Region::new(1),
-            work: Region::new(2),
+            work: Region::new(5),
             noise: Rng::for_index(0, 0),
             board,
             library_time: 0,
@@ -244,6 +248,20 @@ impl Memory {
         Ok(expected)
     }
 
+    /// Compares the working numbers that a search of a record is to be lent; the case is taken from guarded
+    /// memory.
+    pub fn work<'a>(&mut self, case: &'a Case) -> Result<(), Difference<'a>> {
+        for place in PLACEMENTS {
+            let call = Call { place, ..Call::new(Name::Work, Input::Case(case), 0) };
+            let record = self.cases.lend(&[*case], place, &mut self.noise);
+            // SAFETY: the record is a lent one.
+            let given = self.made(&call, || unsafe { giqapsun_work(*record.pointer()) });
+            same(&call, given, answers::work(case))?;
+            as_wanted(&call, "the case", &record, &[])?;
+        }
+        Ok(())
+    }
+
     /// Compares the search in so many working numbers and outputs with the expected schedule.
     pub fn best<'a>(
         &mut self,
@@ -256,7 +274,7 @@ impl Memory {
             let call =
                 Call { work: working_numbers, place, ..Call::new(Name::Best, Input::Case(case), outputs) };
             // SAFETY: pointers and counts are those of the lent slices.
-            self.search(&call, case.t, expected, |work, list| unsafe {
+            self.search(&call, case, expected, |work, list| unsafe {
                 giqapsun_best(*case, work.pointer(), work.count(), list.pointer(), list.count())
             })?;
         }
@@ -279,7 +297,7 @@ impl Memory {
             let record = self.cases.lend(&[*case], place, &mut self.noise);
             let (on, off, begins) = self.lend_pair(&pair, place);
             // SAFETY: pointers and counts are those of the lent slices, and the record is a lent one.
-            self.search(&call, case.t, expected, |work, list| unsafe {
+            self.search(&call, case, expected, |work, list| unsafe {
                 giqapsun_best_by_calendar(
                     *record.pointer(),
                     on.pointer(),
@@ -305,7 +323,7 @@ impl Memory {
     fn search<'a>(
         &mut self,
         call: &Call<'a>,
-        t: usize,
+        case: &Case,
         expected: &Schedule,
         make: impl FnOnce(&Lent<i64>, &Lent<u16>) -> Plan,
     ) -> Result<(), Difference<'a>> {
@@ -314,10 +332,10 @@ impl Memory {
         let noise: Vec<u16> = (0..call.lent).map(|_| self.noise.bits() as u16).collect();
         let list = self.outputs.lend(&noise, call.place, &mut self.noise);
         let raw = self.made(call, || make(&work, &list));
-        let given = answer_with_outputs(raw.number, raw.profit, list.now(), t);
+        let given = answer_with_outputs(raw.number, raw.profit, list.now(), case.t);
         same(call, given, expected.clone())?;
         as_wanted(call, "the outputs", &list, &expected.list)?;
-        as_wanted(call, "the working numbers", &work, &vec![0; expected.zeroed_numbers()])
+        as_wanted(call, "the working numbers", &work, &vec![0; expected.zeroed_numbers(case)])
     }
 
     /// Compares the comparison of two lists; the case is taken from guarded memory too.

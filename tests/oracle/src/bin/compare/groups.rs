@@ -20,15 +20,17 @@ use oracle::known_files::{self, known_files};
 use oracle::known_pairs::{self, known_pairs};
 use oracle::known_prices::{self, known_prices};
 use oracle::known_stages::{self, known_stages};
+use oracle::known_weeks::{self, known_asked, known_searches, known_weeks};
 use oracle::lists::{any_list, disturb_ends, wild_list};
 use oracle::pair;
 use oracle::pairs::{case_of_pairs, Pairs};
 use oracle::random::Rng;
-use oracle::refusals::WORKING_NUMBERS;
+use oracle::refusals;
 use oracle::stages::{full_staged, longer_staged, small_staged};
 use oracle::units::{
     full_day, limit_day, long_day, longer_day, set_below_zero, set_old, small_unit, smaller_unit,
 };
+use oracle::weeks::{full_week, largest_week, locked_week, longer_locked, narrow_week, small_locked};
 use oracle::wild::{fill_past_counts, wild_record};
 
 /// A group: its name, how many indices it has, what one index does, and that in words.
@@ -54,10 +56,10 @@ impl Group {
 }
 
 /// All groups in the order in which they run.
-pub const GROUPS: [Group; 24] = [
+pub const GROUPS: [Group; 30] = [
     group("known-days", 13, known_day, "the known days, all calls, every list checked"),
     group("known-prices", known_prices::COUNT, known_price, "known days below zero and at the limits"),
-    group("source-day", 2, source_day, "the source's day, once and twice over"),
+    group("source-day", 4, source_day, "the source's day, and its rows of 48, 96 and 168 hours"),
     group("small-units", 20_000, small_units, "small units, every list tried"),
     group("below-zero", 20_000, below_zero, "prices below zero, every list tried; the largest days")
         .of_every(Family::Day),
@@ -99,6 +101,25 @@ pub const GROUPS: [Group; 24] = [
     group("staged-full-days", 2_600, staged_full_days, "such days up to 400 MW, by the dynamic programme")
         .of_every(Family::Stage),
     group("staged-lists", 20_000, staged_lists, "ten lists of such a day, checked").of_every(Family::List),
+    group(
+        "known-weeks",
+        known_weeks::COUNT,
+        known_week,
+        "known days of up to 168 hours and 24 hours of a time",
+    ),
+    group(
+        "known-numbers",
+        known_weeks::SEARCHES + known_weeks::ASKED,
+        known_numbers,
+        "known searches in lent numbers, and what records ask for",
+    ),
+    group("weeks", 1_200, weeks, "up to 168 hours, 24 hours of a time and 400 MW, by the dynamic programme")
+        .of_every(Family::Week),
+    group("locked-days", 8_000, locked_days, "minimum times of 9 to 24 hours, every list tried")
+        .of_every(Family::Lock),
+    group("locked-lists", 2_500, locked_lists, "ten lists of such a day or week, checked")
+        .of_every(Family::LockedList),
+    group("lent-numbers", 700, lent_numbers, "8,191 to 32,769 numbers to work in").of_every(Family::Lent),
 ];
 
 /// Most lists of a unit that are all put through the check.
@@ -137,12 +158,39 @@ fn known_price(run: &mut Run, index: u64) {
 
 /// A known day that opens or closes inside a sequence, or is refused for its opening, in the same way.
 fn known_stage(run: &mut Run, index: u64) {
-    let day = &known_stages()[index as usize];
-    if day.answer == Answer::Refused(7) {
+    known_or_refused(run, &known_stages()[index as usize]);
+}
+
+/// A known day of a week or of a long minimum time, in the same way.
+fn known_week(run: &mut Run, index: u64) {
+    known_or_refused(run, &known_weeks()[index as usize]);
+}
+
+/// A known day within the limits, or one that is refused.
+fn known_or_refused(run: &mut Run, day: &KnownDay) {
+    if refusals::record(&day.case).is_err() {
         known_answer_of(run, day);
         refused_row(run, &day.case);
     } else {
         known_row(run, day);
+    }
+}
+
+/// A known search in lent memory, or a record with the numbers that it asks for.
+fn known_numbers(run: &mut Run, index: u64) {
+    let (searches, place) = (known_searches(), index as usize);
+    match searches.get(place) {
+        Some(row) => {
+            let given = answers::schedule(&row.case, row.numbers, row.outputs, best_list);
+            run.independent(&row.case, &given.zeroed_numbers(&row.case), &row.zeroed);
+            run.independent(&row.case, &given, &row.answer);
+            run.best_in(&row.case, row.numbers, row.outputs, &best_list(&row.case));
+        }
+        None => {
+            let (case, asked) = known_asked()[place - searches.len()];
+            run.independent(&case, &answers::work(&case), &asked);
+            run.work(&case);
+        }
     }
 }
 
@@ -179,18 +227,26 @@ fn refused_row(run: &mut Run, case: &Case) {
     let list = vec![case.minimum; case.t];
     run.check(case, &list);
     run.better(case, Pair::apart(&list, &list));
-    let result = run.memory.write(case, 100);
+    run.work(case);
+    let result = run.memory.write(case, 1_000);
     run.note(result);
 }
 
-/// The source's day, and its price profile twice.
+/// The source's day, and its price profile two, four and seven times, with the best profit of each.
 fn source_day(run: &mut Run, index: u64) {
-    let case = if index == 0 { days::source_day() } else { days::source_two_days() };
+    let longer = (index as usize).checked_sub(1).map(|row| days::TABLE_V[row]);
+    let case = longer.map_or_else(days::source_day, |row| row.case());
     let plan = best_list(&case);
-    if index == 0 {
-        let profit = plan.as_ref().map(|plan| plan.profit);
-        run.independent(&case, &profit, &Some(days::SOURCE_PROFIT));
-        run.check(&case, &days::SOURCE_LIST);
+    let profit = plan.as_ref().map(|plan| plan.profit);
+    match longer {
+        None => {
+            run.independent(&case, &profit, &Some(days::SOURCE_PROFIT));
+            run.check(&case, &days::SOURCE_LIST);
+        }
+        Some(row) => {
+            run.independent(&case, &profit, &Some(row.profit));
+            run.independent(&case, &(profit >= Some(row.least())), &true);
+        }
     }
     let mut rng = run.rng();
     run.whole_case(&case, plan.clone(), &mut rng);
@@ -327,12 +383,10 @@ fn all_lengths(run: &mut Run, case: &Case, found: Option<Plan>) {
         let result = run.memory.write(case, count);
         run.note(result);
     }
-    for working_numbers in [0, 8_191, 8_192, 8_193, 8_192 + more] {
+    let asked = answers::work(case);
+    for numbers in [0, asked - 1, asked, asked + 1, asked + more] {
         for outputs in [0, t - 1, t, t + 1, t + more] {
-            let search = |_: &Case| found.clone();
-            let expected = answers::schedule(case, working_numbers, outputs, search);
-            let result = run.memory.best(case, working_numbers, outputs, &expected);
-            run.note(result);
+            run.best_in(case, numbers, outputs, &found);
         }
     }
     let lists = [0, t - 1, t, t + 1, t + more, 1_000]
@@ -345,13 +399,13 @@ fn all_lengths(run: &mut Run, case: &Case, found: Option<Plan>) {
     }
 }
 
-/// A record with fields and counts at and past their limits, through all four calls that take one,
-/// in memory of random length.
+/// A record with fields and counts at and past their limits, through all five calls that take one and
+/// no calendar, in memory of random length.
 fn wild_records(run: &mut Run, _index: u64) {
     let mut rng = run.rng();
     let case = wild_record(&mut rng);
     let t = if case.t <= 2 * MOST_HOURS { case.t } else { rng.place(0, 2 * MOST_HOURS) };
-    let bytes = rng.pick(&[0, 19, 68, 69, 78, 79, 187, 188, 327, 328, 328, 328]);
+    let bytes = rng.pick(&[0, 19, 68, 69, 78, 79, 187, 188, 927, 928, 928, 928]);
     let number = answers::writing(&case, bytes).number;
     let result = run.memory.write(&case, bytes);
     run.note_record(&case, Asked::Write { bytes }, number, result);
@@ -360,7 +414,11 @@ fn wild_records(run: &mut Run, _index: u64) {
     let result = run.memory.check(&case, &list).map(|_| ());
     run.note_record(&case, Asked::Check { outputs: list.len() }, number, result);
     run.better(&case, Pair::apart(&list, &list));
-    let numbers = rng.pick(&[0, 8_191, 8_192, 8_192, 8_192, 8_192, 8_193]);
+    let number = refusals::record(&case).err().unwrap_or(0);
+    let result = run.memory.work(&case);
+    run.note_record(&case, Asked::Work, number, result);
+    let asked = answers::work(&case);
+    let numbers = rng.pick(&[0, asked - 1, asked, asked, asked, asked + 1, 8_192]);
     let outputs = rng.pick(&[t, t, t, t, t + 1, t.saturating_sub(1), 0]);
     let expected = answers::schedule(&case, numbers, outputs, best_list);
     let result = run.memory.best(&case, numbers, outputs, &expected);
@@ -373,8 +431,9 @@ fn entries_past_counts(run: &mut Run, _index: u64) {
     let clean = small_unit(&mut rng);
     let mut case = clean;
     fill_past_counts(&mut rng, &mut case);
-    let expected = answers::schedule(&clean, WORKING_NUMBERS, clean.t, best_list);
-    let result = run.memory.best(&case, WORKING_NUMBERS, case.t, &expected);
+    let asked = answers::work(&clean);
+    let expected = answers::schedule(&clean, asked, clean.t, best_list);
+    let result = run.memory.best(&case, asked, case.t, &expected);
     run.note(result);
     let list = any_list(&mut rng, &clean);
     let result = run.memory.check(&case, &list).map(|_| ());
@@ -463,19 +522,19 @@ fn calendars(run: &mut Run, index: u64) {
     let expected = calendar::schedule(case, &calendar, lent.0, lent.1, best_list);
     let is_searched = expected.number == 0 || expected.number == 11;
     let own = (is_searched && index.is_multiple_of(8))
-        .then(|| answers::schedule(case, WORKING_NUMBERS, case.t, best_list));
+        .then(|| answers::schedule(case, answers::work(case), case.t, best_list));
     run.by_calendar(case, Windows::new(&calendar, *begins), lent, &expected, own.as_ref());
 }
 
 /// Numbers and outputs to lend for a day: just enough, more, or short.
 fn memory_of_a_day(rng: &mut Rng, drawn: &Drawn) -> (usize, usize) {
-    let t = usize::from(drawn.hours).min(MOST_HOURS);
+    let (t, asked) = (usize::from(drawn.hours).min(MOST_HOURS), answers::work(&drawn.case));
     match rng.below(16) {
-        0 => (rng.pick(&[0, 8_191]), t),
-        1 => (WORKING_NUMBERS, rng.pick(&[0, t.saturating_sub(1)])),
+        0 => (rng.pick(&[0, asked - 1, 8_191, 8_192]), t),
+        1 => (asked, rng.pick(&[0, t.saturating_sub(1)])),
         2 => (0, 0),
-        3 => (rng.place(8_193, 8_300), t + rng.place(1, 30)),
-        _ => (WORKING_NUMBERS, t),
+        3 => (asked + rng.place(1, 108), t + rng.place(1, 30)),
+        _ => (asked, t),
     }
 }
 
@@ -517,6 +576,72 @@ fn staged_lists(run: &mut Run, _index: u64) {
     }
 }
 
+/// A week by the dynamic programme: once in ten times of any size, once in a hundred times of the largest,
+/// mostly with a small capacity.
+fn weeks(run: &mut Run, index: u64) {
+    let mut rng = run.rng();
+    let case = match index % 100 {
+        0 => largest_week(&mut rng),
+        place if place % 10 == 5 => full_week(&mut rng),
+        _ => locked_week(&mut rng),
+    };
+    run.whole_case(&case, best_list(&case), &mut rng);
+}
+
+/// A day with a long minimum time: mostly a small unit, every list tried, once in twenty times a longer day,
+/// every commitment tried.
+fn locked_days(run: &mut Run, index: u64) {
+    let mut rng = run.rng();
+    let (case, tried) = if index.is_multiple_of(20) {
+        let case = longer_locked(&mut rng);
+        (case, by_commitment(&case))
+    } else {
+        let case = small_locked(&mut rng);
+        (case, every_list(&case))
+    };
+    run.independent(&case, &best_list(&case), &tried);
+    run.whole_case(&case, tried, &mut rng);
+}
+
+/// Lists of a day with a long minimum time: some that keep the rules, some that would with a minimum time an
+/// hour shorter, near misses at the opening and at the close, and any.
+fn locked_lists(run: &mut Run, _index: u64) {
+    let mut rng = run.rng();
+    let case = narrow_week(&mut rng);
+    let shorter = [
+        case,
+        Case { min_up: (case.min_up - 1).max(1), ..case },
+        Case { min_down: (case.min_down - 1).max(1), ..case },
+    ];
+    let kept = shorter.each_ref().map(KeptLists::new);
+    for turn in 0..LISTS_OF_A_CASE {
+        let drawn = kept[turn % kept.len()].draw(&mut rng, &[]);
+        let mut list = drawn.unwrap_or_else(|| any_list(&mut rng, &case));
+        if rng.once_in(6) {
+            disturb_ends(&mut rng, &case, &mut list);
+        }
+        run.check(&case, &list);
+    }
+}
+
+/// A small unit in memory about the numbers that a search asks for, with a long minimum time or without.
+fn lent_numbers(run: &mut Run, index: u64) {
+    let mut rng = run.rng();
+    let mut case = if index.is_multiple_of(3) { small_unit(&mut rng) } else { small_locked(&mut rng) };
+    if rng.once_in(4) {
+        (case.min_up, case.min_down) = rng.pick(&[(8, 8), (9, 8), (8, 9), (9, 9)]);
+    }
+    let (t, found) = (case.t, best_list(&case));
+    run.work(&case);
+    for numbers in [0, 8_191, 8_192, 8_193, 32_767, 32_768, 32_769] {
+        run.best_in(&case, numbers, t, &found);
+    }
+    let asked = answers::work(&case);
+    for (numbers, outputs) in [(asked, t - 1), (asked, t + 1), (asked - 1, t + 100), (asked - 1, 0)] {
+        run.best_in(&case, numbers, outputs, &found);
+    }
+}
+
 /// Runs one file again: reading, and if it is accepted, all calls, lengths and many lists, those that are named too.
 pub fn one_file(run: &mut Run, bytes: &[u8], lists: &[Named]) {
     run.read(bytes);
@@ -554,7 +679,8 @@ pub fn one_file(run: &mut Run, bytes: &[u8], lists: &[Named]) {
 
 /// Runs one case by a calendar again, in just enough memory and in memory that is short.
 fn one_calendar(run: &mut Run, case: &Case, calendar: &Calendar) {
-    for lent in [(WORKING_NUMBERS, case.t), (0, case.t), (WORKING_NUMBERS, case.t - 1)] {
+    let asked = answers::work(case);
+    for lent in [(asked, case.t), (0, case.t), (asked - 1, case.t), (asked, case.t - 1)] {
         let expected = calendar::schedule(case, calendar, lent.0, lent.1, best_list);
         println!("expected {expected:?}");
         run.by_calendar(case, Windows::new(calendar, None), lent, &expected, None);

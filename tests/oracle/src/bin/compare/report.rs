@@ -7,7 +7,7 @@ use oracle::file;
 use std::path::{Path, PathBuf};
 
 /// Most numbers of a list in a command, without which there is none, and in a line.
-const MOST_LISTED: usize = 100;
+const MOST_LISTED: usize = 200;
 const MOST_PRINTED: usize = 1_000;
 
 /// A list, with its name, which is that of its option on the command line too.

@@ -3,7 +3,9 @@
 use crate::board::{Board, Tally};
 use crate::calls::{Call, Difference, Input, Memory, Name, Pair, Windows};
 use crate::kinds::records::Asked;
-use crate::kinds::{calendars, days, files, lists, pairs, records, stages, Family, FAMILIES};
+use crate::kinds::{
+    calendars, days, files, lent, lists, locked_lists, locks, pairs, records, stages, Family, FAMILIES,
+};
 use crate::report::{show, Source};
 use oracle::answers::{self, Schedule, Verdict};
 use oracle::best::Plan;
@@ -11,7 +13,7 @@ use oracle::case::Case;
 use oracle::file;
 use oracle::lists::{any_list, disturb, walk};
 use oracle::random::Rng;
-use oracle::refusals::WORKING_NUMBERS;
+use oracle::refusals::SHORT_TIME;
 use oracle::rules::RULES;
 use std::fmt::Debug;
 
@@ -96,6 +98,9 @@ impl Run {
             if verdict.number == 0 {
                 self.tally.kinds.list(&lists::Met::new(case, list, verdict));
             }
+            if verdict.number == 0 && has_long_time(case) {
+                self.tally.kinds.locked_list(&locked_lists::Met::new(case, list, verdict));
+            }
         }
         self.note(result.map(|_| ()));
     }
@@ -123,11 +128,32 @@ impl Run {
     /// Compares the search in just enough memory, and counts the kinds of the day.
     pub fn best(&mut self, case: &Case, expected: &Schedule) {
         self.tally.refusals[expected.number as usize] += 1;
-        let result = self.memory.best(case, WORKING_NUMBERS, case.t, expected);
+        let result = self.memory.best(case, answers::work(case), case.t, expected);
         if result.is_ok() {
             self.tally.kinds.day(&days::Met::new(case, expected));
             self.tally.kinds.stage(&stages::Met::new(case, expected));
         }
+        if result.is_ok() && (case.t > 48 || has_long_time(case)) {
+            self.tally.kinds.lock(&locks::Met::new(case, expected));
+        }
+        self.note(result);
+    }
+
+    /// Compares the search in so many numbers and outputs of a day whose best list is known, and counts the
+    /// kinds of what was lent.
+    pub fn best_in(&mut self, case: &Case, numbers: usize, outputs: usize, found: &Option<Plan>) {
+        let expected = answers::schedule(case, numbers, outputs, |_| found.clone());
+        let result = self.memory.best(case, numbers, outputs, &expected);
+        if result.is_ok() {
+            let (number, has_list) = (expected.number, found.is_some());
+            self.tally.kinds.lent(&lent::Met { case: *case, numbers, outputs, number, has_list });
+        }
+        self.note(result);
+    }
+
+    /// Compares the working numbers that a search of a record is to be lent.
+    pub fn work(&mut self, case: &Case) {
+        let result = self.memory.work(case);
         self.note(result);
     }
 
@@ -188,7 +214,8 @@ impl Run {
     /// Compares all calls but the calendar's on a case within the limits whose best list is known, with a few lists.
     pub fn whole_case(&mut self, case: &Case, found: Option<Plan>, rng: &mut Rng) {
         self.files(case);
-        let expected = answers::schedule(case, WORKING_NUMBERS, case.t, |_| found);
+        self.work(case);
+        let expected = answers::schedule(case, answers::work(case), case.t, |_| found);
         self.best(case, &expected);
         let list = if expected.number == 0 { expected.list } else { walk(rng, case) };
         self.check(case, &list);
@@ -200,6 +227,11 @@ impl Run {
         self.better(case, Pair::apart(&list, &disturbed));
         self.better(case, Pair::apart(&any, &list));
     }
+}
+
+/// Whether a minimum time is above 8 hours.
+fn has_long_time(case: &Case) -> bool {
+    case.min_up > SHORT_TIME || case.min_down > SHORT_TIME
 }
 
 /// What a group met: refusals by number, first breaches by rule, pairs by kind, and the kinds that have to come up.

@@ -13,7 +13,8 @@ usage: compare [--seed N] [--groups NAME,NAME.. [--index N]] [--limit SECONDS]
        compare --groups
 The second runs one case, with a list to check if one is named, and a second one to compare it with; the third one
 case by a calendar; the last lists the groups. A call that takes longer than the limit, 10 s if none is named, is a
-difference. Status 1: something differs, or a kind of pairs, files, records, days, calendars or lists has not come up.";
+difference. Status 1: something differs, or a kind of pairs, files, records, days, calendars, lists or lengths has not
+come up.";
 
 /// Lists that may be named on the command line.
 const LISTS: [&str; 5] = ["list", "second", "on", "off", "day"];

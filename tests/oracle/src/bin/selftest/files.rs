@@ -4,7 +4,7 @@
 use crate::{Tally, SEED};
 use oracle::answers;
 use oracle::best::{by_commitment, every_list};
-use oracle::case::Case;
+use oracle::case::{Case, MOST_HOURS};
 use oracle::damage::damaged_file;
 use oracle::days::{self, Answer};
 use oracle::dp::best_list;
@@ -68,7 +68,9 @@ pub fn each_form(tally: &mut Tally) {
     }
     let text = read_in_each_form(tally, "source's day", &days::source_day());
     tally.same("source's day", first_line(&text), format!("profit {}", days::SOURCE_PROFIT));
-    read_in_each_form(tally, "source's day twice", &days::source_two_days());
+    for row in days::TABLE_V {
+        read_in_each_form(tally, "source's days", &row.case());
+    }
 }
 
 /// Reads a case from its three files, and gives the text that the program prints for each.
@@ -106,11 +108,11 @@ pub fn refusal_examples(tally: &mut Tally) {
     tally.same("7", file::write(&Case { p0: 1, ..unit }), Err(7));
     tally.same("7", file::write(&Case { up_stage: 1, ..unit }), Err(7));
     tally.same("7", file::write(&Case { down_stage: 2, ..unit }), Err(7));
-    tally.same("8", file::write(&Case { orders: [3; 48], ..unit }), Err(8));
+    tally.same("8", file::write(&Case { orders: [3; MOST_HOURS], ..unit }), Err(8));
     let above = days::known_unit(0, &[10_000_001]);
     tally.same("13", file::write(&above), Err(13));
     tally.same("13", file::write(&days::known_unit(0, &[-10_000_001])), Err(13));
-    tally.same("8 before 13", file::write(&Case { orders: [3; 48], ..above }), Err(8));
+    tally.same("8 before 13", file::write(&Case { orders: [3; MOST_HOURS], ..above }), Err(8));
     tally.same("13 before 9", answers::verdict(&above, &[]).number, 13);
     tally.same("13 before 10", answers::schedule(&above, 0, 0, best_list).number, 13);
     tally.same("13 before 10", answers::writing(&above, 0).number, 13);
@@ -121,11 +123,11 @@ pub fn refusal_examples(tally: &mut Tally) {
     tally.same("10", answers::schedule(&unit, 8192, 0, best_list).number, 10);
     tally.same("10", answers::writing(&unit, 68).number, 10);
     tally.same("0", answers::writing(&unit, 69).number, 0);
-    let mut largest = days::known_unit(0, &[10; 48]);
+    let mut largest = days::known_unit(0, &[10; 168]);
     (largest.minimum, largest.capacity, largest.ud, largest.dd) = (8, 8, 8, 8);
     (largest.pu, largest.pd) = ([1, 2, 3, 4, 5, 6, 7, 8], [8, 7, 6, 5, 4, 3, 2, 1]);
-    tally.same("most bytes", answers::writing(&largest, 328).bytes.len(), 328);
-    tally.same("10", answers::writing(&largest, 327).number, 10);
+    tally.same("most bytes", answers::writing(&largest, 928).bytes.len(), 928);
+    tally.same("10", answers::writing(&largest, 927).number, 10);
 }
 
 /// The known files: the answer of each, and what is written of those that are read.

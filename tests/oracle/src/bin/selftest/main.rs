@@ -4,6 +4,7 @@ mod calendars;
 mod files;
 mod pairs;
 mod stages;
+mod weeks;
 
 use oracle::answers;
 use oracle::best::{by_commitment, every_list, Plan};
@@ -13,7 +14,6 @@ use oracle::dp::best_list;
 use oracle::known_prices;
 use oracle::lists::any_list;
 use oracle::random::Rng;
-use oracle::refusals::WORKING_NUMBERS;
 use oracle::rules::RULES;
 use oracle::units::{full_day, limit_day, long_day, longer_day, small_unit};
 use std::fmt::Debug;
@@ -53,7 +53,7 @@ fn answer_known_day(day: &KnownDay, search: fn(&Case) -> Option<Plan>) -> String
     let case = &day.case;
     match &day.question {
         Question::Check(list) => format!("{:?}", answers::verdict(case, list)),
-        Question::BestList => format!("{:?}", answers::schedule(case, WORKING_NUMBERS, case.t, search)),
+        Question::BestList => format!("{:?}", answers::schedule(case, answers::work(case), case.t, search)),
     }
 }
 
@@ -114,8 +114,7 @@ fn by_dp_and_check(tally: &mut Tally, day: &KnownDay) {
     }
 }
 
-/// The source's day: the printed list, the optimum, and the optimum of two days in tenths of a
-/// dollar (20,000 half-mills are ten dollars, 200 are a tenth).
+/// The source's day: the printed list and the optimum.
 fn source_day(tally: &mut Tally) {
     let case = days::source_day();
     let passes = answers::Verdict { number: 0, hour: 0, rule: 0, profit: days::SOURCE_PROFIT };
@@ -123,8 +122,6 @@ fn source_day(tally: &mut Tally) {
     let plan = best_list(&case).expect("the source's day has a schedule");
     tally.same("optimum", plan.profit, days::SOURCE_PROFIT);
     tally.same("optimal list", answers::verdict(&case, &plan.list), passes);
-    let two_days = best_list(&days::source_two_days()).expect("two days have a schedule");
-    tally.same("two days", (two_days.profit + 100) / 200, days::TWO_DAYS_TENTHS);
 }
 
 /// The search by commitment against the one that tries every list.
@@ -254,6 +251,14 @@ fn main() -> ExitCode {
     group("lists kept without a stop after T", &mut total, plain(stages::kept_before));
     group("two days back to back", &mut total, stages::back_to_back);
     group("the best list, cut in two", &mut total, stages::cut_in_two);
+    group("known weeks", &mut total, plain(weeks::known));
+    group("rows of Table V", &mut total, plain(weeks::table_v));
+    group("program's memory", &mut total, plain(weeks::program));
+    group("dp against every list, long minimum times", &mut total, weeks::small);
+    group("dp against by commitment, long minimum times", &mut total, weeks::longer);
+    group("dp's lists on weeks", &mut total, weeks::full);
+    group("drawn lists of weeks against dp", &mut total, weeks::drawn);
+    group("the best list of a week, cut in two", &mut total, plain(weeks::cut_in_two));
     println!("{} passed, {} failed", total.passed, total.failed);
     ExitCode::from(u8::from(total.failed > 0))
 }

@@ -6,7 +6,7 @@ use crate::calls::{Pair, Windows};
 use oracle::answers::Schedule;
 use oracle::calendar::{day, year, Fault, Year, YEAR_HOURS};
 use oracle::case::{Case, FREE, MOST_HOURS, OFF_LINE};
-use oracle::refusals::{self, PRICES, WORKING_NUMBERS};
+use oracle::refusals::{self, working_numbers, PRICES, SHORT_TIME, WORKING_NUMBERS};
 use std::ops::Range;
 
 /// A calendar that a day was filled from, and its answer.
@@ -41,7 +41,7 @@ const OFF: Which = |met| &met.off;
 const LONG: usize = 10_000;
 
 /// All kinds.
-pub const KINDS: [Kind<Met>; 91] = [
+pub const KINDS: [Kind<Met>; 97] = [
     kind("14: on-line, not of pairs", |met| met.by_list(ON, Fault::NotOfPairs)),
     kind("on-line, empty", |met| met.by_list(ON, Fault::Empty)),
     kind("on-line, unsorted", |met| met.by_list(ON, Fault::Unsorted)),
@@ -112,7 +112,7 @@ pub const KINDS: [Kind<Met>; 91] = [
     kind("3 to 8 before 10", |met| matches!(met.answer.number, 3..=8) && met.is_short()),
     kind("13 before 10", |met| met.refused(13) && met.is_short()),
     kind("10 by numbers alone", |met| met.refused(10) && met.outputs >= met.hours),
-    kind("10 by outputs alone", |met| met.refused(10) && met.numbers >= WORKING_NUMBERS),
+    kind("10 by outputs alone", |met| met.refused(10) && met.numbers >= working_numbers(&met.case)),
     kind("11", |met| met.refused(11)),
     kind("found: 23 hours", |met| met.refused(0) && met.hours == 23),
     kind("24 hours", |met| met.refused(0) && met.hours == 24),
@@ -141,6 +141,16 @@ pub const KINDS: [Kind<Met>; 91] = [
     kind("same memory", |met| met.is_searched() && met.is_same_memory() && !met.on.numbers.is_empty()),
     kind("overlapping memory", |met| met.is_searched() && met.memory_overlaps()),
     kind("15 of the same memory", |met| met.refused(15) && met.is_same_memory()),
+    kind("a day of 168 hours", |met| met.by_day_alone(Fault::DayLength) && met.hours == 168),
+    kind("T 168", |met| met.refused(2) && met.case.t == 168),
+    kind("found, a minimum time above 8", |met| met.refused(0) && met.has_long_time()),
+    kind("11, a minimum time above 8", |met| met.refused(11) && met.has_long_time()),
+    kind("10 by 8,192 numbers, a minimum time above 8", |met| {
+        met.refused(10) && met.numbers == WORKING_NUMBERS && met.outputs >= met.hours
+    }),
+    kind("4 by a minimum time of 25", |met| {
+        met.refused(4) && (met.case.min_up == 25 || met.case.min_down == 25)
+    }),
 ];
 
 impl List {
@@ -269,9 +279,14 @@ impl Met {
         refusals::record(&self.case).err()
     }
 
+    /// Whether a minimum time is above 8 hours.
+    fn has_long_time(&self) -> bool {
+        self.case.min_up > SHORT_TIME || self.case.min_down > SHORT_TIME
+    }
+
     /// Whether the lent memory is shorter than the day needs.
     fn is_short(&self) -> bool {
-        self.numbers < WORKING_NUMBERS || self.outputs < self.hours
+        self.numbers < working_numbers(&self.case) || self.outputs < self.hours
     }
 
     /// The hours of the day, from 1 on, that both lists hold.

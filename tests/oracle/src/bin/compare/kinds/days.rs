@@ -35,9 +35,9 @@ pub const KINDS: [Kind<Met>; 20] = [
     kind("at the lower limit", |met| met.has(*PRICES.start())),
     kind("at the upper limit", |met| met.has(*PRICES.end())),
     kind("at both limits", |met| met.has(*PRICES.start()) && met.has(*PRICES.end())),
-    kind("at both limits, 48 hours of 400 MW", |met| met.is_largest_at_both_limits()),
-    kind("on-line for 48 hours at the lower limit", |met| met.is_on_line_at(*PRICES.start())),
-    kind("on-line for 48 hours at the upper limit", |met| met.is_on_line_at(*PRICES.end())),
+    kind("at both limits, 168 hours of 400 MW", |met| met.is_largest_at_both_limits()),
+    kind("on-line for 168 hours at the lower limit", |met| met.is_on_line_at(*PRICES.start())),
+    kind("on-line for 168 hours at the upper limit", |met| met.is_on_line_at(*PRICES.end())),
     kind("more than 2^32 earned", |met| met.answer.profit > 1 << 32),
     kind("more than 2^32 lost", |met| met.answer.profit < -(1 << 32)),
     kind("a loss", |met| met.answer.profit < 0),
@@ -104,7 +104,7 @@ impl Met {
         largest && self.has(*PRICES.start()) && self.has(*PRICES.end())
     }
 
-    /// Whether the unit is on-line for 48 hours, all at this price.
+    /// Whether the unit is on-line for 168 hours, all at this price.
     fn is_on_line_at(&self, price: i32) -> bool {
         let on = self.answer.list.iter().filter(|&&output| output > 0).count() == MOST_HOURS;
         on && self.prices().iter().all(|&other| other == price)

@@ -1,5 +1,5 @@
-//! The kinds of files of the three forms (requests F-2 and F-5): which test refuses a file, and what a file holds that
-//! is read; and of hours sections to count (request F-4).
+//! The kinds of files of the three forms (requests F-2, F-5 and F-6): which test refuses a file, and what a
+//! file holds that is read; and of hours sections to count (request F-4).
 
 use super::{kind, Kind};
 use oracle::case::Case;
@@ -26,7 +26,7 @@ const HOURS: usize = 3;
 const FORM: usize = 4;
 
 /// All kinds.
-pub const KINDS: [Kind<Met>; 119] = [
+pub const KINDS: [Kind<Met>; 127] = [
     kind("old form read", |met| met.is_read(4)),
     kind("form 2 read", |met| met.is_read_as(2)),
     kind("form 3 read", |met| met.is_read_as(3)),
@@ -132,20 +132,28 @@ pub const KINDS: [Kind<Met>; 119] = [
     kind("8 before 13", |met| met.refused(8) && met.outside().next().is_some()),
     kind("old prices in form 2", |met| met.is_read_as(2) && met.has_old_prices()),
     kind("old prices in form 3", |met| met.is_read_as(3) && met.has_old_prices()),
-    kind("48 hours of the old form", |met| met.is_read(4) && met.hours() == 48),
-    kind("old hours section of 143 bytes", |met| met.hours_section_of(4, 143)),
-    kind("old hours section of 145 bytes", |met| met.hours_section_of(4, 145)),
-    kind("old hours section of 147 bytes", |met| met.hours_section_of(4, 147)),
-    kind("257 to 304 old hours", |met| met.has_256_hours_more(4)),
+    kind("168 hours of the old form", |met| met.is_read(4) && met.hours() == 168),
+    kind("old hours section of 503 bytes", |met| met.hours_section_of(4, 503)),
+    kind("old hours section of 505 bytes", |met| met.hours_section_of(4, 505)),
+    kind("old hours section of 507 bytes", |met| met.hours_section_of(4, 507)),
+    kind("257 to 424 old hours", |met| met.has_256_hours_more(4)),
     kind("old hours section of 65,535 bytes", |met| met.hours_section_of(4, 65_535)),
-    kind("48 hours of form 2", |met| met.is_read_as(2) && met.hours() == 48),
-    kind("48 hours of form 3", |met| met.is_read_as(3) && met.hours() == 48),
-    kind("hours section of 239 bytes", |met| met.hours_section_of(5, 239)),
-    kind("hours section of 241 bytes", |met| met.hours_section_of(5, 241)),
-    kind("hours section of 245 bytes", |met| met.hours_section_of(5, 245)),
-    kind("257 to 304 hours", |met| met.has_256_hours_more(5)),
+    kind("168 hours of form 2", |met| met.is_read_as(2) && met.hours() == 168),
+    kind("168 hours of form 3", |met| met.is_read_as(3) && met.hours() == 168),
+    kind("hours section of 839 bytes", |met| met.hours_section_of(5, 839)),
+    kind("hours section of 841 bytes", |met| met.hours_section_of(5, 841)),
+    kind("hours section of 845 bytes", |met| met.hours_section_of(5, 845)),
+    kind("257 to 424 hours", |met| met.has_256_hours_more(5)),
     kind("hours section of 65,535 bytes", |met| met.breaks_at(5, 5) && met.length(HOURS) == 65_535),
     kind("the most hours of five pairs", |met| met.has_most_hours()),
+    kind("49 to 167 hours of the old form", |met| met.is_read(4) && (49..168).contains(&met.hours())),
+    kind("49 to 167 hours of five pairs", |met| met.is_read(5) && (49..168).contains(&met.hours())),
+    kind("old form, a minimum time of 9 to 24", |met| met.is_read(4) && met.has_time(9, 24)),
+    kind("form 2, a minimum time of 9 to 24", |met| met.is_read_as(2) && met.has_time(9, 24)),
+    kind("form 3, a minimum time of 9 to 24", |met| met.is_read_as(3) && met.has_time(9, 24)),
+    kind("old form, a minimum time of 25", |met| met.refused_by_limit(4, 4) && met.has_time(25, 25)),
+    kind("form 2, a minimum time of 25", |met| met.refused_in(2, 4) && met.has_time(25, 25)),
+    kind("form 3, a minimum time of 25", |met| met.refused_in(3, 4) && met.has_time(25, 25)),
 ];
 
 impl Met {
@@ -187,6 +195,12 @@ impl Met {
     fn is_set(&self, up: bool, down: bool) -> bool {
         let stages = self.stages();
         (stages.0 > 0, stages.1 > 0) == (up, down)
+    }
+
+    /// Whether a minimum time that it holds is of so many hours.
+    fn has_time(&self, least: u16, most: u16) -> bool {
+        let is_such = |time: u16| (least..=most).contains(&time);
+        self.held.is_some_and(|(_, case)| is_such(case.min_up) || is_such(case.min_down))
     }
 
     /// Whether the old form can hold all its prices.
@@ -295,9 +309,9 @@ impl Met {
         2 * self.pairs.len() - 5
     }
 
-    /// Whether the hours are 1 to 48 entries of so many bytes.
+    /// Whether the hours are 1 to 168 entries of so many bytes.
     fn hours_of(&self, bytes: usize) -> bool {
-        (1..=48).any(|hours| self.length(HOURS) == hours * bytes)
+        (1..=168).any(|hours| self.length(HOURS) == hours * bytes)
     }
 
     /// Whether the hours of so many pairs alone have a wrong length, and it is this one.
@@ -305,10 +319,10 @@ impl Met {
         self.wrong_alone(pairs, HOURS) && self.length(HOURS) == bytes
     }
 
-    /// Whether the hours of so many pairs alone have a wrong length, that of 256 more than 1 to 48.
+    /// Whether the hours of so many pairs alone have a wrong length, that of 256 more than 1 to 168.
     fn has_256_hours_more(&self, pairs: usize) -> bool {
         let length = |hours: usize| hours * self.hour_bytes();
-        self.wrong_alone(pairs, HOURS) && (257..=304).any(|hours| self.length(HOURS) == length(hours))
+        self.wrong_alone(pairs, HOURS) && (257..=424).any(|hours| self.length(HOURS) == length(hours))
     }
 
     /// Whether the hours of five pairs alone have a wrong length, that of so many hours that one more would leave no

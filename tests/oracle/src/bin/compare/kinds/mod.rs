@@ -1,13 +1,18 @@
-//! The kinds of what a comparison meets, each with its test, to be counted: pairs of lists, files, records, days,
-//! calendars, days inside a sequence and lists of such days.
+//! The kinds of what a comparison meets, each with its test, to be counted: pairs of lists, files, records,
+//! days, calendars, days inside a sequence and lists of such days, weeks, days of long minimum times and
+//! lists of such days, and lent memory.
 
 pub mod calendars;
 pub mod days;
 pub mod files;
+pub mod lent;
 pub mod lists;
+pub mod locked_lists;
+pub mod locks;
 pub mod pairs;
 pub mod records;
 pub mod stages;
+pub mod weeks;
 
 /// A kind in words, and whether what was met is of it.
 pub struct Kind<M> {
@@ -30,11 +35,26 @@ pub enum Family {
     Calendar,
     Stage,
     List,
+    Week,
+    Lock,
+    LockedList,
+    Lent,
 }
 
 /// All of them, in the order in which they are printed.
-pub const FAMILIES: [Family; 7] =
-    [Family::Pair, Family::File, Family::Record, Family::Day, Family::Calendar, Family::Stage, Family::List];
+pub const FAMILIES: [Family; 11] = [
+    Family::Pair,
+    Family::File,
+    Family::Record,
+    Family::Day,
+    Family::Calendar,
+    Family::Stage,
+    Family::List,
+    Family::Week,
+    Family::Lock,
+    Family::LockedList,
+    Family::Lent,
+];
 
 impl Family {
     /// The word for one.
@@ -47,6 +67,10 @@ impl Family {
             Family::Calendar => "calendar",
             Family::Stage => "staged day",
             Family::List => "list",
+            Family::Week => "week",
+            Family::Lock => "locked day",
+            Family::LockedList => "locked list",
+            Family::Lent => "length",
         }
     }
 }
@@ -61,6 +85,10 @@ pub struct Counts {
     calendars: [u64; calendars::KINDS.len()],
     stages: [u64; stages::KINDS.len()],
     lists: [u64; lists::KINDS.len()],
+    weeks: [u64; weeks::KINDS.len()],
+    locks: [u64; locks::KINDS.len()],
+    locked_lists: [u64; locked_lists::KINDS.len()],
+    lent: [u64; lent::KINDS.len()],
 }
 
 impl Default for Counts {
@@ -73,6 +101,10 @@ impl Default for Counts {
             calendars: [0; calendars::KINDS.len()],
             stages: [0; stages::KINDS.len()],
             lists: [0; lists::KINDS.len()],
+            weeks: [0; weeks::KINDS.len()],
+            locks: [0; locks::KINDS.len()],
+            locked_lists: [0; locked_lists::KINDS.len()],
+            lent: [0; lent::KINDS.len()],
         }
     }
 }
@@ -113,6 +145,22 @@ impl Counts {
         add(&lists::KINDS, met, &mut self.lists);
     }
 
+    /// Counts a day by its hours and by what its minimum times lock.
+    pub fn lock(&mut self, met: &locks::Met) {
+        add(&weeks::KINDS, met, &mut self.weeks);
+        add(&locks::KINDS, met, &mut self.locks);
+    }
+
+    /// Counts a list that was checked by its minimum times.
+    pub fn locked_list(&mut self, met: &locked_lists::Met) {
+        add(&locked_lists::KINDS, met, &mut self.locked_lists);
+    }
+
+    /// Counts the memory that a search was lent.
+    pub fn lent(&mut self, met: &lent::Met) {
+        add(&lent::KINDS, met, &mut self.lent);
+    }
+
     /// Each kind in words, with how often it came up.
     fn of(&self, family: Family) -> Vec<(&'static str, u64)> {
         match family {
@@ -123,6 +171,10 @@ impl Counts {
             Family::Calendar => beside(&calendars::KINDS, &self.calendars),
             Family::Stage => beside(&stages::KINDS, &self.stages),
             Family::List => beside(&lists::KINDS, &self.lists),
+            Family::Week => beside(&weeks::KINDS, &self.weeks),
+            Family::Lock => beside(&locks::KINDS, &self.locks),
+            Family::LockedList => beside(&locked_lists::KINDS, &self.locked_lists),
+            Family::Lent => beside(&lent::KINDS, &self.lent),
         }
     }
 

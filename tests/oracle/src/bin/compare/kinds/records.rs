@@ -1,9 +1,10 @@
-//! The kinds of records that are written, checked and searched: which test refuses a record (scope, "Refusal list";
-//! requests F-2 and F-5), and which comes first of two.
+//! The kinds of records that are written, checked, searched and asked for the working numbers of a search:
+//! which test refuses a record (scope, "Refusal list"; requests F-2, F-5 and F-6), and which comes first of
+//! two.
 
 use super::{kind, Kind};
 use oracle::case::{Case, MOST_HOURS};
-use oracle::refusals::{PRICES, WORKING_NUMBERS};
+use oracle::refusals::{working_numbers, MOST_WORKING_NUMBERS, PRICES, WORKING_NUMBERS};
 
 /// What a call was made for.
 #[derive(Clone, Copy, Debug, PartialEq, Eq)]
@@ -14,6 +15,8 @@ pub enum Asked {
     Check { outputs: usize },
     /// The search in so many numbers, for so many outputs.
     Best { numbers: usize, outputs: usize },
+    /// How many working numbers a search is to be lent.
+    Work,
 }
 
 /// A record that a call was made with, and its number.
@@ -24,7 +27,7 @@ pub struct Met {
 }
 
 /// All kinds.
-pub const KINDS: [Kind<Met>; 67] = [
+pub const KINDS: [Kind<Met>; 84] = [
     kind("2", |met| met.number == 2),
     kind("3", |met| met.number == 3),
     kind("4", |met| met.number == 4),
@@ -108,6 +111,31 @@ pub const KINDS: [Kind<Met>; 67] = [
     }),
     kind("7 by h below UD alone", |met| met.is_alone(Fault::OnLineHours)),
     kind("7 before 13", |met| met.number == 7 && met.has_stage() && met.outside().next().is_some()),
+    kind("168 hours, written", |met| met.number == 0 && met.writes() && met.case.t == 168),
+    kind("168 hours, checked", |met| met.number == 0 && met.checks() && met.case.t == 168),
+    kind("168 hours, searched", |met| met.number == 0 && met.searches() && met.case.t == 168),
+    kind("2 by T 169 alone", |met| met.number == 2 && met.case.t == 169 && met.has_stages_of_1_to_8()),
+    kind("minimum up time 24, searched", |met| met.number == 0 && met.searches() && met.case.min_up == 24),
+    kind("minimum down time 24, searched", |met| {
+        met.number == 0 && met.searches() && met.case.min_down == 24
+    }),
+    kind("4 by a minimum up time of 25 alone", |met| {
+        met.is_by_times(|up, down| up == 25 && (1..25).contains(&down))
+    }),
+    kind("4 by a minimum down time of 25 alone", |met| {
+        met.is_by_times(|up, down| down == 25 && (1..25).contains(&up))
+    }),
+    kind("4 by a minimum up time of 0 alone", |met| {
+        met.is_by_times(|up, down| up == 0 && (1..25).contains(&down))
+    }),
+    kind("4 before 10", |met| met.number == 4 && met.searches() && met.is_short()),
+    kind("10 of 8,192 numbers", |met| met.number == 10 && met.is_lent(WORKING_NUMBERS)),
+    kind("10 of 32,767 numbers", |met| met.number == 10 && met.is_lent(MOST_WORKING_NUMBERS - 1)),
+    kind("searched in 8,192 numbers", |met| met.number == 0 && met.is_lent(WORKING_NUMBERS)),
+    kind("searched in 32,768 numbers", |met| met.number == 0 && met.is_lent(MOST_WORKING_NUMBERS)),
+    kind("11 in 32,768 numbers", |met| met.number == 11 && met.is_lent(MOST_WORKING_NUMBERS)),
+    kind("8,192 numbers of a refused record", |met| met.is_refused_and_asks(WORKING_NUMBERS)),
+    kind("32,768 numbers of a refused record", |met| met.is_refused_and_asks(MOST_WORKING_NUMBERS)),
 ];
 
 /// What 7 is given for.
@@ -205,6 +233,28 @@ impl Met {
         matches!(self.asked, Asked::Best { .. })
     }
 
+    /// Whether UD and DD are in order.
+    fn has_stages_of_1_to_8(&self) -> bool {
+        (1..=8).contains(&self.case.ud) && (1..=8).contains(&self.case.dd)
+    }
+
+    /// Whether 4 is given for the minimum times, and they are such.
+    fn is_by_times(&self, test: fn(u16, u16) -> bool) -> bool {
+        let ramps = [self.case.ramp_up, self.case.ramp_down];
+        let by_ramps = ramps.iter().any(|ramp| !(1..=400).contains(ramp));
+        self.number == 4 && !by_ramps && test(self.case.min_up, self.case.min_down)
+    }
+
+    /// Whether a search is lent so many numbers, and outputs enough.
+    fn is_lent(&self, wanted: usize) -> bool {
+        matches!(self.asked, Asked::Best { numbers, outputs } if numbers == wanted && outputs >= self.case.t)
+    }
+
+    /// Whether the record is refused, and a search of it would ask for so many numbers.
+    fn is_refused_and_asks(&self, numbers: usize) -> bool {
+        self.asked == Asked::Work && self.number > 0 && working_numbers(&self.case) == numbers
+    }
+
     /// The number of hours, as far as a record has room.
     fn hours(&self) -> usize {
         self.case.t.min(MOST_HOURS)
@@ -244,8 +294,10 @@ impl Met {
     fn is_short(&self) -> bool {
         match self.asked {
             Asked::Write { bytes } => bytes < 20,
-            Asked::Check { .. } => false,
-            Asked::Best { numbers, outputs } => numbers < WORKING_NUMBERS || outputs < self.case.t,
+            Asked::Check { .. } | Asked::Work => false,
+            Asked::Best { numbers, outputs } => {
+                numbers < working_numbers(&self.case) || outputs < self.case.t
+            }
         }
     }
 }
