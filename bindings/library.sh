@@ -4,7 +4,7 @@
 # this.
 
 # the number of the record's layout, that of include/giqapsun.h
-layout=3
+layout=4
 
 # broken MESSAGE: prints the line and ends
 broken() {
@@ -39,7 +39,7 @@ fi
 [ -f "$GIQAPSUN_LIB_DIR/libgiqapsun.a" ] ||
     broken "no libgiqapsun.a in $GIQAPSUN_LIB_DIR, the folder that GIQAPSUN_LIB_DIR names"
 symbols=$(nm "$GIQAPSUN_LIB_DIR/libgiqapsun.a" 2>&1 || true)
-for call in read write check best better best_by_calendar; do
+for call in read write check best better best_by_calendar work; do
     grep -q " T giqapsun_${call}_$layout$" <<<"$symbols" ||
         broken "$GIQAPSUN_LIB_DIR/libgiqapsun.a has no function giqapsun_${call}_$layout"
 done

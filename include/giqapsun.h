@@ -1,15 +1,16 @@
 /*
  * Giqapsun: the day of one thermal power unit.
  *
- * Six calls: read a case file, write a case file, check a list of hourly outputs, find the list that
- * earns most, by the case's own hour orders or by those of a calendar, tell the better of two lists.
- * Structs go by value; a slice is a pointer and then its length in elements, not bytes. The calls allocate
- * nothing, keep nothing from one call to the next, and have no instruction that divides.
+ * Seven calls: read a case file, write a case file, check a list of hourly outputs, find the list that
+ * earns most, by the case's own hour orders or by those of a calendar, tell the better of two lists, tell how
+ * many numbers a search is lent to work in. A day here is the hours of one case, up to a week. Structs go by
+ * value; a slice is a pointer and then its length in elements, not bytes. The calls allocate nothing, keep
+ * nothing from one call to the next, and have no instruction that divides.
  *
  * Units
  *
  *   output    megawatts (MW), whole; p(k) is the output at the end of hour k, p(0) the one before hour 1
- *   hour      1 to T; hour 0 is the one before the day, hours above T come after it
+ *   hour      1 to T, T at most 168; hour 0 is the one before the day, hours above T come after it
  *   price     mills (thousandths of a dollar) per MWh, from GIQAPSUN_PRICE_LEAST to GIQAPSUN_PRICE_MOST
  *   cost      F mills per MWh, A mills per on-line hour, B per start, C per stop; none is below 0
  *   profit    half-mills: 2,000 to the dollar, exact, may be negative
@@ -32,7 +33,7 @@
  * Refusals: the `number` of an answer. 0 is no refusal. The conditions are tested in the order of this
  * list, and the first that applies is given. giqapsun_read tests 1 to 8, 12 and 13; giqapsun_write 2 to 8,
  * 13 and 10; giqapsun_check and giqapsun_better 2 to 8, 13 and 9; giqapsun_best 2 to 8, 13, 10 and 11;
- * giqapsun_best_by_calendar 14, 15, 2 to 8, 13, 10 and 11.
+ * giqapsun_best_by_calendar 14, 15, 2 to 8, 13, 10 and 11; giqapsun_work none.
  *
  *   14  a list of windows not of whole pairs; a window empty, unsorted or overlapping its neighbour; a day
  *       not of 23 to 25 hours; or first hour plus length of a window or of the day above 8,784
@@ -42,7 +43,7 @@
  *       hours
  *   12  form number neither 2 nor 3
  *   3   minimum output 0 or above capacity, or capacity above 400
- *   4   RU or RD outside 1 to 400, or a minimum time outside 1 to 8
+ *   4   RU or RD outside 1 to 400, or a minimum time outside 1 to 24
  *   5   F not from 0 to 1,000,000, or A, B or C not from 0 to 100,000,000
  *   6   PU not strictly rising from 1 or more to the minimum output, or PD not strictly falling from the
  *       minimum output to 1 or more
@@ -53,7 +54,8 @@
  *   8   an order byte above 2
  *   13  a price outside -10,000,000 to 10,000,000
  *   9   checked list not of T outputs
- *   10  lent memory short: 8,192 signed 64-bit numbers to work in, T outputs, or the written file's bytes
+ *   10  lent memory short: 8,192 signed 64-bit numbers to work in, 32,768 where a minimum time is above 8,
+ *       T outputs, or the written file's bytes
  *   11  best list asked for, and no list keeps every rule
  *
  * Rules that a list may break: the `rule` of a verdict.
@@ -87,7 +89,8 @@
  * stack. GIQAPSUN_STACK_READ and the like say how many bytes of stack a call takes, that record included.
  *
  * Example: a case on standard input, its best day on standard output. As in the program best_day, a file
- * of more than 4,096 bytes is refused by 1.
+ * of more than 4,096 bytes is refused by 1. It lends GIQAPSUN_WORK_MOST numbers, so no case is refused by 10;
+ * best_day lends GIQAPSUN_WORK.
  *
  *     #include <stdio.h>
  *     #include "giqapsun.h"
@@ -101,7 +104,7 @@
  *     int main(void)
  *     {
  *         static uint8_t file[4096 + 1];   // a byte more, to tell a longer file
- *         static int64_t work[GIQAPSUN_WORK];
+ *         static int64_t work[GIQAPSUN_WORK_MOST];
  *         uint16_t outputs[GIQAPSUN_HOURS];
  *
  *         size_t length = fread(file, 1, sizeof file, stdin);
@@ -110,7 +113,8 @@
  *         struct giqapsun_reading day = giqapsun_read(file, length);
  *         if (day.number != 0)
  *             return refused(day.number);
- *         struct giqapsun_plan plan = giqapsun_best(day.c, work, GIQAPSUN_WORK, outputs, GIQAPSUN_HOURS);
+ *         struct giqapsun_plan plan =
+ *             giqapsun_best(day.c, work, GIQAPSUN_WORK_MOST, outputs, GIQAPSUN_HOURS);
  *         if (plan.number != 0)
  *             return refused(plan.number);
  *         printf("profit %lld half-mills\n", (long long)plan.profit);
@@ -130,7 +134,7 @@ extern "C" {
 #endif
 
 /* Version of the product. */
-#define GIQAPSUN_VERSION "3.0.0"
+#define GIQAPSUN_VERSION "4.0.0"
 
 /*
  * Number of the layout: it changes with every change of a struct below, and each function of the library
@@ -138,7 +142,7 @@ extern "C" {
  * A call that a version adds, and a struct with it, leaves the number: of two versions of one layout the
  * later has every call of the earlier.
  */
-#define GIQAPSUN_LAYOUT 3
+#define GIQAPSUN_LAYOUT 4
 
 #define GIQAPSUN_JOINED(name, layout) name##_##layout
 #define GIQAPSUN_NAMED(name, layout) GIQAPSUN_JOINED(name, layout)
@@ -148,21 +152,29 @@ extern "C" {
 #define giqapsun_best GIQAPSUN_NAMED(giqapsun_best, GIQAPSUN_LAYOUT)
 #define giqapsun_better GIQAPSUN_NAMED(giqapsun_better, GIQAPSUN_LAYOUT)
 #define giqapsun_best_by_calendar GIQAPSUN_NAMED(giqapsun_best_by_calendar, GIQAPSUN_LAYOUT)
+#define giqapsun_work GIQAPSUN_NAMED(giqapsun_work, GIQAPSUN_LAYOUT)
 
 /* Entries that a record has room for: outputs of a trajectory, hours of a day. */
 #define GIQAPSUN_STAGES 8
-#define GIQAPSUN_HOURS 48
+#define GIQAPSUN_HOURS 168
 
-/* Signed 64-bit numbers that giqapsun_best and giqapsun_best_by_calendar are lent to work in. */
+/*
+ * Signed 64-bit numbers that giqapsun_best and giqapsun_best_by_calendar are lent to work in: GIQAPSUN_WORK where
+ * both minimum times are at most GIQAPSUN_SHORT_TIME hours, GIQAPSUN_WORK_MOST otherwise, which are enough for
+ * every case. giqapsun_work tells which of the two.
+ */
+#define GIQAPSUN_SHORT_TIME 8
 #define GIQAPSUN_WORK 8192
+#define GIQAPSUN_WORK_MOST 32768
 
 /* Bytes of stack that each call takes at the most. */
-#define GIQAPSUN_STACK_READ 2048
-#define GIQAPSUN_STACK_WRITE 2048
-#define GIQAPSUN_STACK_CHECK 4096
-#define GIQAPSUN_STACK_BEST 49152
-#define GIQAPSUN_STACK_BETTER 4096
-#define GIQAPSUN_STACK_CALENDAR 49152
+#define GIQAPSUN_STACK_READ 6144
+#define GIQAPSUN_STACK_WRITE 4096
+#define GIQAPSUN_STACK_CHECK 8192
+#define GIQAPSUN_STACK_BEST 65536
+#define GIQAPSUN_STACK_BETTER 8192
+#define GIQAPSUN_STACK_CALENDAR 65536
+#define GIQAPSUN_STACK_WORK 2048
 
 /* Bytes of the longest file: pairs, unit, two trajectories, hours, form number. */
 #define GIQAPSUN_FILE_MOST (20 + 34 + 2 * GIQAPSUN_STAGES * 2 + 5 * GIQAPSUN_HOURS + 2)
@@ -187,8 +199,8 @@ struct giqapsun_case {
     uint16_t minimum;   /* minimum output, MW */
     uint16_t rampup;    /* RU, MW per hour */
     uint16_t rampdown;  /* RD, MW per hour */
-    uint16_t minup;     /* minimum up time, hours */
-    uint16_t mindown;   /* minimum down time, hours */
+    uint16_t minup;     /* minimum up time, hours, 1 to 24 */
+    uint16_t mindown;   /* minimum down time, hours, 1 to 24 */
     int32_t variable;   /* F, mills per MWh */
     int32_t fixed;      /* A, mills per on-line hour */
     int32_t startcost;  /* B, mills per start */
@@ -203,7 +215,7 @@ struct giqapsun_case {
     uint8_t orders[GIQAPSUN_HOURS]; /* orders[k - 1] is that of hour k: free, on-line or off-line */
     size_t rises; /* UD: entries of rise, 1 to 8 */
     size_t falls; /* DD: entries of fall, 1 to 8 */
-    size_t hours; /* T: entries of prices and of orders, 1 to 48 */
+    size_t hours; /* T: entries of prices and of orders, 1 to 168 */
 };
 
 /* Number 0 and the case; or a refusal and a record of zeros. */
@@ -261,9 +273,10 @@ struct giqapsun_verdict giqapsun_check(struct giqapsun_case c, const uint16_t *l
 
 /*
  * Finds the list that keeps every rule and earns most; among equal earners the one that is lower at the
- * first hour where two differ. n is at least GIQAPSUN_WORK, m at least T; what the memory holds does not
+ * first hour where two differ. n is at least giqapsun_work(c), m at least T; what the memory holds does not
  * matter. On number 0 the first T outputs are filled, outputs[k - 1] with p(k). On numbers 0 and 11 the
- * first GIQAPSUN_WORK numbers of work are set to 0. On any other number nothing is changed.
+ * first giqapsun_work(c) numbers of work are set to 0, however many are lent. On any other number nothing is
+ * changed.
  */
 struct giqapsun_plan giqapsun_best(struct giqapsun_case c, int64_t *work, size_t n, uint16_t *outputs,
                                    size_t m);
@@ -297,6 +310,13 @@ struct giqapsun_plan giqapsun_best_by_calendar(struct giqapsun_case c, const uin
                                                const uint16_t *off, size_t b, uint16_t first,
                                                uint16_t hours, int64_t *work, size_t n,
                                                uint16_t *outputs, size_t m);
+
+/*
+ * How many numbers a search of this case is lent to work in: GIQAPSUN_WORK where both minimum times are at most
+ * GIQAPSUN_SHORT_TIME, GIQAPSUN_WORK_MOST otherwise. Nothing else of the record is looked at, so a record that
+ * every other call refuses has an answer too. Changes no memory.
+ */
+size_t giqapsun_work(struct giqapsun_case c);
 
 #ifdef __cplusplus
 }

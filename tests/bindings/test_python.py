@@ -1,7 +1,8 @@
 """The Python module: known days, the source's day, every form of a file, prices below 0, days that open and close
-inside a sequence, the better of two lists, days by calendar, refusals, numbers that fit no record, the library that it
-loads, and the module as it is installed."""
+inside a sequence, weeks and long minimum times, the better of two lists, days by calendar, refusals, numbers that fit
+no record, the library that it loads, and the module as it is installed."""
 
+import ctypes
 import doctest
 import os
 import pickle
@@ -19,7 +20,8 @@ from pathlib import Path
 
 import giqapsun
 from giqapsun import Breaks, Case, First, Neither, Opening, Passes, Plan, Refusal, Second
-from giqapsun import best, best_by_calendar, better, check, compare, opening_after, read, write
+from giqapsun import best, best_by_calendar, better, check, compare, opening_after, read, working_numbers, write
+from giqapsun import _boundary as boundary
 
 ROOT = Path(__file__).resolve().parents[2]
 CASE_7 = (ROOT / "cases/case7.case").read_bytes()
@@ -27,6 +29,8 @@ SOURCE = (ROOT / "cases/source.case").read_bytes()
 BELOW_ZERO = (ROOT / "cases/below_zero.case").read_bytes()
 EVENING = (ROOT / "cases/evening.case").read_bytes()
 MORNING = (ROOT / "cases/morning.case").read_bytes()
+WEEK = (ROOT / "cases/week.case").read_bytes()
+BOILER = (ROOT / "cases/boiler.case").read_bytes()
 SECOND_CASE_7 = (ROOT / "cases/old/form2/case7.case").read_bytes()
 SECOND_SOURCE = (ROOT / "cases/old/form2/source.case").read_bytes()
 SECOND_BELOW_ZERO = (ROOT / "cases/old/form2/below_zero.case").read_bytes()
@@ -97,7 +101,7 @@ class Days(unittest.TestCase):
             self.assertEqual(read(old), read(file))
             self.assertEqual((read(old).upstage, read(old).downstage), (0, 0))
             self.assertEqual(write(read(old)), file)
-        for file in (CASE_7, SOURCE, BELOW_ZERO, EVENING, MORNING):
+        for file in (CASE_7, SOURCE, BELOW_ZERO, EVENING, MORNING, WEEK, BOILER):
             self.assertEqual(file[-2:], b"\x03\x00")
             self.assertEqual(write(read(file)), file)
 
@@ -328,7 +332,7 @@ class Sequences(unittest.TestCase):
             self.assertEqual(opening_after(self.day(*asdict(opening).values()), []), opening)
         self.assertEqual(opening_after(self.day(1, 1, 1), [2]), Opening(2, 2, upstage=2))
         self.assertEqual(opening_after(self.day(1, 1, 1), [2, 3]), Opening(3, 3))
-        self.assertEqual(opening_after(replace(case, elapsed=9_999), [4] * 48), Opening(4, 10_000))
+        self.assertEqual(opening_after(replace(case, elapsed=9_999), [4] * 168), Opening(4, 10_000))
         self.assertRaises(ValueError, opening_after, case, [65_536])
         self.assertRaises(ValueError, opening_after, case, None)
 
@@ -370,6 +374,132 @@ class Refusing(unittest.TestCase):
         with self.assertRaises(Refusal) as caught:
             call(*arguments)
         self.assertEqual(caught.exception.number, number)
+
+
+class Weeks(Refusing):
+    """Up to 168 hours, minimum times of up to 24, and the numbers that a search is lent to work in."""
+
+    # minimum times, and how many numbers a case with them is lent
+    TIMES = [
+        (1, 1, 8192), (8, 1, 8192), (1, 8, 8192), (8, 8, 8192), (9, 1, 32_768), (1, 9, 32_768), (9, 8, 32_768),
+        (8, 9, 32_768), (20, 12, 32_768), (24, 1, 32_768), (1, 24, 32_768), (24, 24, 32_768),
+    ]
+
+    @staticmethod
+    def hours(count, price=5, **changes):
+        """Case 7's unit on so many hours at a price."""
+        return replace(read(CASE_7), prices=[price] * count, orders=[giqapsun.FREE] * count, **changes)
+
+    def test_table_v(self):
+        """The source's day repeated earns what the source prints, less 0.05 dollar, and more."""
+        day = read(SOURCE)
+        for days, tenths, profit in (
+            (1, 167_735, 33_546_962), (2, 391_395, 78_279_049), (4, 838_716, 167_743_223), (7, 1_509_697, 301_939_484),
+        ):
+            case = replace(day, prices=day.prices * days, orders=day.orders * days)
+            plan = best(case)
+            self.assertEqual((len(plan.outputs), plan.profit), (24 * days, profit))
+            self.assertGreaterEqual(plan.profit, 200 * tenths - 100)
+            self.assertEqual(check(case, plan.outputs), Passes(profit))
+            self.assertEqual(read(write(case)), case)
+        self.assertEqual(case, read(WEEK))
+
+    def test_boiler(self):
+        """The stored week of a unit with long minimum times: they are kept, and so are the orders."""
+        case = read(BOILER)
+        self.assertEqual((case.minup, case.mindown, len(case.prices)), (20, 12, 168))
+        plan = best(case)
+        self.assertEqual(plan.profit, 283_279_650)
+        self.assertEqual(check(case, plan.outputs), Passes(plan.profit))
+        starts = [k for k, (one, other) in enumerate(zip([0, *plan.outputs], plan.outputs), 1) if one == 0 < other]
+        stops = [k for k, (one, other) in enumerate(zip([0, *plan.outputs], plan.outputs), 1) if other == 0 < one]
+        self.assertEqual((starts, stops), ([3, 64, 158], [51, 146]))
+        self.assertEqual(better(case, [0] * 168, plan.outputs), plan.outputs)
+        for name in ("minup", "mindown"):
+            self.assertGreaterEqual(best(replace(case, **{name: 8})).profit, plan.profit)
+
+    def test_parts_of_a_week(self):
+        """What the first hours leave opens the others, and the profits add up."""
+        case = read(BOILER)
+        plan = best(case)
+        for cut in (1, 24, 49, 120, 167):
+            self.assertEqual(Sequences.parts(case, plan.outputs, cut), Passes(plan.profit))
+
+    def test_minimum_times(self):
+        """A stop and a start as early as may be, after 2 hours on-line and off-line; an hour earlier is a breach."""
+        for time in range(1, 25):
+            losing, stop = self.hours(48, minup=time), max(time - 1, 3)
+            outputs = best(losing).outputs
+            self.assertEqual(outputs.index(0) + 1, stop)
+            if stop > 3:
+                self.assertEqual(check(losing, [*outputs[1:], 0]), Breaks(stop - 1, 21))
+            earning, start = self.hours(48, price=500, mindown=time, initial=0), max(time - 1, 1)
+            outputs = best(earning).outputs
+            self.assertEqual(next(k for k, output in enumerate(outputs, 1) if output), start)
+            if start > 1:
+                self.assertEqual(check(earning, [*outputs[1:], 4]), Breaks(start - 1, 22))
+
+    def test_stop_after_the_last_hour(self):
+        """21 at hour 169: a start at hour 150 and a shut-down that is cut by the end."""
+        case = self.hours(168, minup=24, initial=0, elapsed=24)
+        outputs = [0] * 149 + [1] + [2] * 17 + [1]
+        self.assertEqual(check(case, outputs), Breaks(169, 21))
+        self.assertIsInstance(check(replace(case, minup=19), outputs), Passes)
+
+    def test_limits(self):
+        for minup, mindown, _ in self.TIMES:
+            for count in (1, 48, 49, 168):
+                case = self.hours(count, minup=minup, mindown=mindown)
+                self.assertEqual(read(write(case)), case)
+                self.assertEqual(len(best(case).outputs), count)
+        for count in (169, 256 + 3, 70_000):
+            self.refused(2, write, self.hours(count))
+            self.refused(2, best, self.hours(count, minup=25))
+        for minup, mindown in ((25, 1), (1, 25), (0, 24), (256 + 3, 1), (65_535, 65_535)):
+            for call in (write, best):
+                self.refused(4, call, self.hours(168, minup=minup, mindown=mindown))
+
+    def test_working_numbers(self):
+        """The two minimum times decide, also in a case that is refused; others that no record holds are faults."""
+        self.assertEqual((giqapsun.SHORT_TIME, giqapsun.WORK, giqapsun.WORK_MOST), (8, 8192, 32_768))
+        for minup, mindown, numbers in self.TIMES:
+            for case in (self.hours(3), self.hours(168), self.hours(169), Case(), replace(self.hours(3), rampup=0)):
+                self.assertEqual(working_numbers(replace(case, minup=minup, mindown=mindown)), numbers)
+        self.assertEqual(working_numbers(Case()), giqapsun.WORK)
+        self.assertEqual(working_numbers(Case(minup=25)), giqapsun.WORK_MOST)
+        self.assertEqual(working_numbers(Case(mindown=65_535)), giqapsun.WORK_MOST)
+        self.assertRaises(ValueError, working_numbers, Case(minup=65_536))
+        self.assertRaises(ValueError, working_numbers, Case(minup=True))
+
+    def searched(self, case, lent, off=()):
+        """Number and zeroed numbers of a search that is lent so many, by its own orders, and by windows that order the
+        same; no number past the zeroed ones has changed."""
+        answers = set()
+        calls, record, windows = boundary.calls(), giqapsun._record(case), (ctypes.c_uint16 * 2)(*off)
+        for calendar in ((), (windows, 0, windows, len(off), 2400, 24)):
+            work, outputs = (ctypes.c_int64 * 32_771)(*[-7] * 32_771), (ctypes.c_uint16 * 168)()
+            call = calls.best_by_calendar if calendar else calls.best
+            number = call(record, *calendar, work, lent, outputs, 168).number
+            zeroed = next((i for i, left in enumerate(work) if left), len(work))
+            self.assertEqual(set(work[zeroed:]), {-7})
+            answers.add((number, zeroed))
+        return answers
+
+    def test_lent_numbers(self):
+        """One less is 10, with a list and without; on 0 and 11 as many are zeroed as the case asks for."""
+        for minup, mindown, numbers in self.TIMES:
+            case = self.hours(24, minup=minup, mindown=mindown)
+            none = replace(case, orders=[giqapsun.OFF] + [giqapsun.FREE] * 23)
+            for lent in (numbers, numbers + 3, 32_771):
+                self.assertEqual(self.searched(case, lent), {(0, numbers)})
+                self.assertEqual(self.searched(none, lent, (2400, 1)), {(11, numbers)})
+            for lent in (0, numbers - 1):
+                self.assertEqual(self.searched(case, lent), {(10, 0)})
+                self.assertEqual(self.searched(none, lent, (2400, 1)), {(10, 0)})
+            # the module lends what the case asks for
+            self.assertEqual(len(best(case).outputs), 24)
+            self.refused(11, best, none)
+            self.refused(11, best_by_calendar, case, [], [2400, 1], 2400, 24)
 
 
 class Calendar(Refusing):
@@ -470,7 +600,7 @@ class Calendar(Refusing):
                     self.refused(14, best_by_calendar, self.day(24), other, wrong, 2400, 24)
 
     def test_refusals_of_a_day(self):
-        for hours in (0, 22, 26, 48, 65_535):
+        for hours in (0, 22, 26, 48, 168, 65_535):
             self.refused(14, best_by_calendar, self.day(24), [], [], 2400, hours)
         for hours in giqapsun.DAY_HOURS:
             for first in (giqapsun.YEAR_HOURS - hours + 1, giqapsun.YEAR_HOURS, 65_536 - hours, 65_535):
@@ -571,10 +701,13 @@ class Refusals(Refusing):
         for number, changed in [
             (2, Case()),
             (2, replace(case, prices=[], orders=[])),
-            (2, replace(case, prices=[5] * 49, orders=free * 49)),
+            (2, replace(case, prices=[5] * 169, orders=free * 169)),
             (2, replace(case, rise=list(range(1, 10)))),
             (3, replace(case, minimum=5)),
             (4, replace(case, rampup=0)),
+            (4, replace(case, minup=0)),
+            (4, replace(case, minup=25)),
+            (4, replace(case, mindown=25)),
             (5, replace(case, variable=1_000_001)),
             (5, replace(case, variable=-1)),
             (5, replace(case, stopcost=-(2**31))),
@@ -744,8 +877,8 @@ class Kinds(unittest.TestCase):
 
     def test_types(self):
         self.assertTrue((Path(giqapsun.__file__).parent / "py.typed").exists())
-        calls = (read, write, check, best, best_by_calendar, compare, better, opening_after, giqapsun.library_file)
-        for call in calls:
+        calls = (read, write, check, best, best_by_calendar, compare, better, opening_after, working_numbers)
+        for call in (*calls, giqapsun.library_file):
             hints = typing.get_type_hints(call)
             self.assertEqual(len(hints), call.__code__.co_argcount + 1)
         for kind in (Case, Opening, Passes, Breaks, Plan, First, Second, Neither):
@@ -759,7 +892,7 @@ class Kinds(unittest.TestCase):
         self.assertEqual(names, [field.name for field in fields(Case)] + ["rises", "falls", "hours"])
 
     def test_constants(self):
-        self.assertEqual((giqapsun.YEAR_HOURS, giqapsun.DAY_HOURS), (8784, (23, 24, 25)))
+        self.assertEqual((giqapsun.HOURS, giqapsun.YEAR_HOURS, giqapsun.DAY_HOURS), (168, 8784, (23, 24, 25)))
         for name in giqapsun.__all__:
             self.assertTrue(hasattr(giqapsun, name), name)
 
@@ -794,12 +927,12 @@ class Library(unittest.TestCase):
         return self.run_python(text, PYTHONPATH=str(ROOT / "bindings/python"), **environment)[1]
 
     def test_complaints(self):
-        calls = ("read", "write", "check", "best", "better")
+        calls = ("read", "write", "check", "best", "better", "best_by_calendar")
         for functions, lacks, reason in (
-            (["giqapsun_read"], "giqapsun_read_3", "it is no library of layout 3"),
-            ([f"giqapsun_{call}_2" for call in calls], "giqapsun_read_3", "it is no library of layout 3"),
-            ([f"giqapsun_{call}_3" for call in calls[:4]], "giqapsun_better_3", "it is of an earlier version"),
-            ([f"giqapsun_{call}_3" for call in calls], "giqapsun_best_by_calendar_3", "it is of an earlier version"),
+            (["giqapsun_read"], "giqapsun_read_4", "it is no library of layout 4"),
+            ([f"giqapsun_{call}_3" for call in calls], "giqapsun_read_4", "it is no library of layout 4"),
+            ([f"giqapsun_{call}_4" for call in calls[:4]], "giqapsun_better_4", "it is of an earlier version"),
+            ([f"giqapsun_{call}_4" for call in calls], "giqapsun_work_4", "it is of an earlier version"),
         ):
             text = "".join(f"int {function}(void) {{ return 0; }}\n" for function in functions)
             (self.folder / "stub.c").write_text(text)

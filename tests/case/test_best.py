@@ -213,7 +213,8 @@ profit 23399976000 half-mills
     def test_refusals(self):
         for number, data, words in [
             (1, b"", "bytes: 0, at least 16 needed"),
-            (2, file_of(prices=[1] * 49, orders=[0] * 49), "hours: 49, from 1 to 48 allowed"),
+            (2, file_of(prices=[1] * 169, orders=[0] * 169), "hours: 169, from 1 to 168 allowed"),
+            (4, file_of(minup=25), "minup: 25, from 1 to 24 allowed"),
             (3, file_of(minimum=5), "minimum: 5, from 1 to the capacity 4 allowed"),
             (8, OLD_CASE_7[:-1] + b"\x03", "orders: 3 at hour 3, 0 (free), 1 (on) or 2 (off) allowed"),
             (1, bytes(5000), "byte 0: offset of unit: 0, 20 (16 in the old form) needed"),

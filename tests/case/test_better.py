@@ -286,7 +286,7 @@ class BetterFaults(PairTest):
     def test_length(self):
         """9 names each file that has too few or too many outputs, whatever the other is."""
         needed = "3 (the hours of the case) needed"
-        for count in (0, 1, 2, 4, 48, 49, 100):
+        for count in (0, 1, 2, 4, 48, 168, 169, 300):
             wrong, said = [2] * count, f"outputs: {count}, {needed}"
             for other in (BEST, BROKEN):
                 self.refused(wrong, other, ["a.csv", f"a.csv: {said}"])
@@ -304,7 +304,7 @@ class BetterFaults(PairTest):
         listed = texts("refusals.tsv")
         for number, data, said in [
             (1, b"abc", "bytes: 3, at least 16 needed"),
-            (2, file_of(prices=[1] * 49, orders=[0] * 49), "hours: 49, from 1 to 48 allowed"),
+            (2, file_of(prices=[1] * 169, orders=[0] * 169), "hours: 169, from 1 to 168 allowed"),
             (3, file_of(minimum=5), "minimum: 5, from 1 to the capacity 4 allowed"),
             (8, file_of(orders=[0, 3, 0]), "orders: 3 at hour 2, 0 (free), 1 (on) or 2 (off) allowed"),
             (12, CASE_7[:-2] + b"\4\0", "byte 77: form number: 4, 2 or 3 needed"),

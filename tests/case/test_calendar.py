@@ -48,7 +48,7 @@ def year_text(*windows):
 def day_case(hours, **changes):
     """The source's unit with so many free hours, its prices beginning again where they end."""
     case = giqapsun.read(SOURCE)
-    return replace(case, **{"prices": (case.prices * 2)[:hours], "orders": [0] * hours, **changes})
+    return replace(case, **{"prices": (case.prices * 7)[:hours], "orders": [0] * hours, **changes})
 
 
 def filled(windows, first, hours):
@@ -495,8 +495,9 @@ class Refused(CalendarTest):
         for hours in (23, 25):
             said = [f"T is 24, and the day has {hours} hours"]
             self.refused(2, said, [], "--first", "0", "--hours", str(hours), files=files)
-        said, words = ["T is 48, and the day has 24 hours"], ("--first", "0", "--hours", "24")
-        self.refused(2, said, [], *words, files=files, case=day_case(48))
+        for hours in (48, 168):
+            said, words = [f"T is {hours}, and the day has 24 hours"], ("--first", "0", "--hours", "24")
+            self.refused(2, said, [], *words, files=files, case=day_case(hours))
 
     def test_reasons_are_those_of_the_number(self):
         """On random windows and days: a reason for 14 is found exactly where the library gives 14, and one for 15,

@@ -101,8 +101,8 @@ read by the library
             ("hour,output\n1,65536\n", "l.csv:2: output: 65536, from 0 to 65,535 allowed"),
             ("hour,output\n1,2\n2,1\n", "l.csv: refused 9: checked list not of T outputs\n"
                                         "outputs: 2, 3 (the hours of the case) needed"),
-            (list_text([2] * 49), "l.csv: refused 9: checked list not of T outputs\n"
-                                  "outputs: 49, 3 (the hours of the case) needed"),
+            (list_text([2] * 169), "l.csv: refused 9: checked list not of T outputs\n"
+                                   "outputs: 169, 3 (the hours of the case) needed"),
         ]:
             with self.subTest(message=message):
                 self.at_fault(message, "check", "d.case", self.file("l.csv", text))

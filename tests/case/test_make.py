@@ -13,7 +13,7 @@ class Made(ToolTest):
     """Cases that are made."""
 
     def test_stored_cases(self):
-        for name in ("source", "case7", "below_zero", "evening", "morning"):
+        for name in ("source", "case7", "below_zero", "evening", "morning", "week", "boiler"):
             made = self.made((CASES / f"{name}.toml").read_bytes(), (CASES / f"{name}.csv").read_bytes())
             self.assertEqual(made, (CASES / f"{name}.case").read_bytes())
 
@@ -184,10 +184,10 @@ class Refused(ToolTest):
 
     def test_counts(self):
         text = texts("refusals.tsv")[2]
-        for hours in (49, 30_000):
+        for hours in (169, 30_000):
             csv = "hour,price_mills\n" + "".join(f"{k},1\n" for k in range(1, hours + 1))
-            self.refused(2, text, unit(), f"p.csv: hours: {hours:,}, from 1 to 48 allowed", csv)
-        self.refused(2, text, unit(), "p.csv: hours: 0, from 1 to 48 allowed", "hour,price_mills\n")
+            self.refused(2, text, unit(), f"p.csv: hours: {hours:,}, from 1 to 168 allowed", csv)
+        self.refused(2, text, unit(), "p.csv: hours: 0, from 1 to 168 allowed", "hour,price_mills\n")
         self.refused(2, text, unit(rise="[]"), "u.toml:13: rise: 0, from 1 to 8 allowed")
         long = "[" + "1, " * 40_000 + "]"
         self.refused(2, text, unit(fall=long), "u.toml:14: fall: 40,000, from 1 to 8 allowed")
@@ -204,12 +204,12 @@ class Refused(ToolTest):
         )
 
     def test_ramps_and_times(self):
-        text = "RU or RD outside 1 to 400, or a minimum time outside 1 to 8"
+        text = "RU or RD outside 1 to 400, or a minimum time outside 1 to 24"
         self.refused(4, text, unit(rampup="0"), "u.toml:3: rampup: 0, from 1 to 400 allowed")
         self.refused(4, text, unit(rampdown="401"), "u.toml:4: rampdown: 401, from 1 to 400 allowed")
         self.refused(
-            4, text, unit(minup="9", mindown="-9"),
-            "u.toml:5: minup: 9, from 1 to 8 allowed\nu.toml:6: mindown: -9, from 1 to 8 allowed",
+            4, text, unit(minup="25", mindown="-9"),
+            "u.toml:5: minup: 25, from 1 to 24 allowed\nu.toml:6: mindown: -9, from 1 to 24 allowed",
         )
 
     def test_costs(self):

@@ -7,8 +7,8 @@ import struct
 import subprocess
 
 from tool import (
-    BELOW_ZERO, CASE_7, CASES, EVENING, FAKE, MORNING, OLD_CASE_7, OLD_SOURCE, PRICES, READ_ONLY, ROOT,
-    SECOND_BELOW_ZERO, SECOND_CASE_7, SECOND_SOURCE, SOURCE, ToolTest, file_of, giqapsun, list_text, texts, unit,
+    BELOW_ZERO, BOILER, CASE_7, CASES, EVENING, FAKE, MORNING, OLD_CASE_7, OLD_SOURCE, PRICES, READ_ONLY, ROOT,
+    SECOND_BELOW_ZERO, SECOND_CASE_7, SECOND_SOURCE, SOURCE, WEEK, ToolTest, file_of, giqapsun, list_text, texts, unit,
 )
 
 from layout import bytes_of, case_of, form_of
@@ -58,7 +58,7 @@ class OwnReader(ToolTest):
             self.assertEqual((self.same(old), self.same(data)), (0, 0))
             self.assertEqual(case_of(old), case_of(data))
             self.assertEqual(bytes_of(case_of(old)[1]), data)
-        for data in (BELOW_ZERO, EVENING, MORNING):
+        for data in (BELOW_ZERO, EVENING, MORNING, WEEK, BOILER):
             self.assertEqual((form_of(data), self.same(data)), (3, 0))
             self.assertEqual(bytes_of(case_of(data)[1]), data)
 
@@ -67,7 +67,7 @@ class OwnReader(ToolTest):
         numbers = set()
         for _ in range(6000):
             data = damaged(chance, chance.choice(
-                (CASE_7, SOURCE, BELOW_ZERO, MORNING, SECOND_CASE_7, SECOND_SOURCE, OLD_CASE_7, OLD_SOURCE)
+                (CASE_7, SOURCE, BELOW_ZERO, MORNING, BOILER, SECOND_CASE_7, SECOND_SOURCE, OLD_CASE_7, OLD_SOURCE)
             ))
             number = self.same(data)
             numbers.add(number)
@@ -86,7 +86,8 @@ class OwnReader(ToolTest):
             (OLD_CASE_7, (32, 2, 2, 3)), (SECOND_CASE_7, (32, 2, 2, 5, 2)), (CASE_7, (34, 2, 2, 5, 2))
         ):
             for place, width in enumerate(widths):
-                for length in {*range(20), 32, 34, 8 * width, 8 * width + 1, 9 * width, 48 * width, 49 * width, 3000}:
+                entries = {8, 9, 48, 49, 168, 169}
+                for length in {*range(20), 32, 34, 8 * width + 1, *(width * entry for entry in entries), 3000}:
                     for form in (1, 2, 3, 4):
                         sections = parts(data)
                         sections[4:] = [form.to_bytes(2, "little")] * len(sections[4:])
@@ -131,7 +132,7 @@ class OwnReader(ToolTest):
         """What is said of the bytes at fault."""
         listed = texts("refusals.tsv")
         first, second, twelfth, fifth, seventh, last = (listed[number] for number in (1, 2, 12, 5, 7, 13))
-        hours = file_of(prices=[1] * 49, orders=[0] * 49)
+        hours = file_of(prices=[1] * 169, orders=[0] * 169)
         limits = "from $-10,000.000 to $10,000.000 allowed"
         for data, text in [
             (b"", f"refused 1: {first}\nbytes: 0, at least 16 needed"),
@@ -150,7 +151,7 @@ class OwnReader(ToolTest):
              f"refused 2: {second}\nbyte 2: length of unit: 32, 34 bytes needed"),
             (chained([34, 4, 4, 15, 2], parts(SECOND_CASE_7)),
              f"refused 2: {second}\nbyte 2: length of unit: 34, 32 bytes needed"),
-            (hours, f"refused 2: {second}\nhours: 49, from 1 to 48 allowed"),
+            (hours, f"refused 2: {second}\nhours: 169, from 1 to 168 allowed"),
             (CASE_7[:-2] + b"\4\0", f"refused 12: {twelfth}\nbyte 77: form number: 4, 2 or 3 needed"),
             (CASE_7[:52] + b"\1\2" + CASE_7[54:],
              f"refused 7: {seventh}\ndownstage: 2, 0 allowed with a start-up stage of 1"),
@@ -279,12 +280,12 @@ class NotBuilt(ToolTest):
     def test_a_library_that_is_none(self):
         """A library that is named and cannot serve is a fault; the tool's own reader does not stand in for it."""
         self.file("d.case", CASE_7)
-        self.file("stub.c", "int giqapsun_read_2(void) { return 0; }\n")
+        self.file("stub.c", "int giqapsun_read_3(void) { return 0; }\n")
         subprocess.run(["gcc", "-shared", "stub.c", "-o", "stub.so"], cwd=self.folder, check=True)
         self.file("text.so", "no library\n")
         for name, what in [
             ("none.so", "the library none.so cannot be loaded: no such file\n"),
-            ("stub.so", "stub.so has no giqapsun_read_3: it is no library of layout 3; bindings/build.sh builds one\n"),
+            ("stub.so", "stub.so has no giqapsun_read_4: it is no library of layout 4; bindings/build.sh builds one\n"),
         ]:
             answer = self.run_copy("show", "d.case", GIQAPSUN_LIBRARY=name)
             self.assertEqual(answer, (2, b"", f"case: {what}"))

@@ -7,8 +7,8 @@ import random
 from dataclasses import asdict
 
 from tool import (
-    BELOW_ZERO, CASE_7, EVENING, MORNING, OLD_CASE_7, READ_ONLY, SECOND_CASE_7, SOURCE, ToolTest, file_of, giqapsun,
-    random_opening, small,
+    BELOW_ZERO, BOILER, CASE_7, EVENING, MORNING, OLD_CASE_7, READ_ONLY, SECOND_CASE_7, SOURCE, WEEK, ToolTest, file_of,
+    giqapsun, random_opening, small,
 )
 
 CASE_7_TEXT = """\
@@ -130,7 +130,7 @@ class MadeAgain(ToolTest):
         return self.answered("make", "u.toml", "p.csv")
 
     def test_stored_cases(self):
-        for data in (BELOW_ZERO, CASE_7, EVENING, MORNING, SOURCE):
+        for data in (BELOW_ZERO, BOILER, CASE_7, EVENING, MORNING, SOURCE, WEEK):
             self.assertEqual(self.again(data), data)
         for old, data in READ_ONLY:
             self.assertEqual(self.again(old), data)
@@ -157,10 +157,10 @@ class MadeAgain(ToolTest):
         for _ in range(30):
             capacity = number(20, 400)
             minimum = number(10, capacity)
-            hours = number(1, 48)
+            hours = number(1, 168)
             case = giqapsun.Case(
                 capacity=capacity, minimum=minimum, rampup=number(1, 400), rampdown=number(1, 400),
-                minup=number(1, 8), mindown=number(1, 8), variable=number(0, 10**6), fixed=number(0, 10**8),
+                minup=number(1, 24), mindown=number(1, 24), variable=number(0, 10**6), fixed=number(0, 10**8),
                 startcost=number(0, 10**8), stopcost=number(0, 10**8), rise=[*range(1, number(1, 8)), minimum],
                 fall=[minimum, *range(number(1, 8) - 1, 0, -1)], prices=[number(-(10**7), 10**7) for _ in range(hours)],
                 orders=[number(0, 2) for _ in range(hours)], initial=number(minimum, capacity),

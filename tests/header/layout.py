@@ -6,8 +6,8 @@ import giqapsun
 from giqapsun import _boundary as boundary
 
 CONSTANTS = (
-    "LAYOUT", "STAGES", "HOURS", "WORK", "FILE_MOST", "PRICE_LEAST", "PRICE_MOST", "YEAR_HOURS", "DAY_LEAST",
-    "DAY_MOST",
+    "LAYOUT", "STAGES", "HOURS", "SHORT_TIME", "WORK", "WORK_MOST", "FILE_MOST", "PRICE_LEAST", "PRICE_MOST",
+    "YEAR_HOURS", "DAY_LEAST", "DAY_MOST",
 )
 
 

@@ -46,7 +46,9 @@ fn main() {
     println!("LAYOUT {}", boundary::LAYOUT);
     println!("STAGES {}", boundary::STAGES);
     println!("HOURS {}", boundary::HOURS);
+    println!("SHORT_TIME {}", boundary::SHORT_TIME);
     println!("WORK {}", boundary::WORK);
+    println!("WORK_MOST {}", boundary::WORK_MOST);
     println!("FILE_MOST {}", boundary::FILE_MOST);
     println!("PRICE_LEAST {}", boundary::PRICE_LEAST);
     println!("PRICE_MOST {}", boundary::PRICE_MOST);

@@ -1,7 +1,7 @@
 /*
- * The stack that each call takes on the largest case, its record included, beside what giqapsun.h says. The
- * calls run on a stack of their own that is painted first; what is no longer paint was used. Status 1: a
- * call took more than it may.
+ * The stack that each call takes on the largest case, its record included, beside what giqapsun.h says; the
+ * searches also on the largest case with short minimum times. The calls run on a stack of their own that is
+ * painted first; what is no longer paint was used. Status 1: a call took more than it may.
  */
 #include "giqapsun.h"
 #include <pthread.h>
@@ -16,14 +16,14 @@
 
 static unsigned char stack[STACK_BYTES] __attribute__((aligned(64)));
 
-/* The largest case, and its first hours as a day of the calendar. */
-static struct giqapsun_case largest, longest_day;
+/* The largest case, its first hours as a day of the calendar, and both with short minimum times. */
+static struct giqapsun_case largest, longest_day, short_times, short_times_day;
 static uint8_t file[GIQAPSUN_FILE_MOST];
-static int64_t work[GIQAPSUN_WORK];
+static int64_t work[GIQAPSUN_WORK_MOST];
 static uint16_t outputs[GIQAPSUN_HOURS];
 
-/* The year's windows; of that day, from hour 100 of the year, hours 9 and 10 are on-line, 20 to 22 off-line. */
-static const uint16_t on[] = {90, 10, 108, 2}, off[] = {119, 2, 121, 1};
+/* The year's windows; of that day, from hour 100 of the year, hours 9 and 10 are on-line, hour 25 off-line. */
+static const uint16_t on[] = {90, 10, 108, 2}, off[] = {124, 2, 126, 1};
 
 /* Numbers of the answers; all are 0. */
 static uint32_t numbers;
@@ -38,9 +38,19 @@ static void call_read(void)
     numbers |= giqapsun_read(file, sizeof file).number;
 }
 
+static void call_work(void)
+{
+    numbers |= giqapsun_work(largest) != GIQAPSUN_WORK_MOST;
+}
+
 static void call_best(void)
 {
-    numbers |= giqapsun_best(largest, work, GIQAPSUN_WORK, outputs, GIQAPSUN_HOURS).number;
+    numbers |= giqapsun_best(largest, work, GIQAPSUN_WORK_MOST, outputs, GIQAPSUN_HOURS).number;
+}
+
+static void call_best_by_short_times(void)
+{
+    numbers |= giqapsun_best(short_times, work, GIQAPSUN_WORK, outputs, GIQAPSUN_HOURS).number;
 }
 
 static void call_check(void)
@@ -54,12 +64,21 @@ static void call_better(void)
     numbers |= giqapsun_better(largest, outputs, GIQAPSUN_HOURS, outputs, GIQAPSUN_HOURS).number;
 }
 
+static void search_by_calendar(struct giqapsun_case day, size_t lent)
+{
+    numbers |= giqapsun_best_by_calendar(day, on, sizeof on / sizeof *on, off, sizeof off / sizeof *off, 100,
+                                         GIQAPSUN_DAY_MOST, work, lent, outputs, GIQAPSUN_HOURS)
+                   .number;
+}
+
 static void call_best_by_calendar(void)
 {
-    numbers |= giqapsun_best_by_calendar(longest_day, on, sizeof on / sizeof *on, off,
-                                         sizeof off / sizeof *off, 100, GIQAPSUN_DAY_MOST, work,
-                                         GIQAPSUN_WORK, outputs, GIQAPSUN_HOURS)
-                   .number;
+    search_by_calendar(longest_day, GIQAPSUN_WORK_MOST);
+}
+
+static void call_best_by_calendar_by_short_times(void)
+{
+    search_by_calendar(short_times_day, GIQAPSUN_WORK);
 }
 
 /* The calls in an order in which each has what it needs. */
@@ -70,10 +89,13 @@ static struct {
 } calls[] = {
     {"write", call_write, GIQAPSUN_STACK_WRITE, 0},
     {"read", call_read, GIQAPSUN_STACK_READ, 0},
+    {"work", call_work, GIQAPSUN_STACK_WORK, 0},
+    {"best by short times", call_best_by_short_times, GIQAPSUN_STACK_BEST, 0},
     {"best", call_best, GIQAPSUN_STACK_BEST, 0},
     {"check", call_check, GIQAPSUN_STACK_CHECK, 0},
     {"better", call_better, GIQAPSUN_STACK_BETTER, 0},
     {"best_by_calendar", call_best_by_calendar, GIQAPSUN_STACK_CALENDAR, 0},
+    {"best_by_calendar by short times", call_best_by_calendar_by_short_times, GIQAPSUN_STACK_CALENDAR, 0},
 };
 
 #define CALLS (sizeof calls / sizeof *calls)
@@ -90,13 +112,13 @@ static size_t used(void (*call)(void))
     return (size_t)(here - stack) - unused;
 }
 
-/* A day of 48 hours that lead the unit up, down and off-line, with 400 MW and trajectories of 8 stages; and
-   one of the first 25 of them. */
+/* A day of 168 hours that lead the unit up, down and off-line, with 400 MW, trajectories of 8 stages and minimum
+   times of 24 hours; one of the first 25 of them; and both with minimum times of 8. */
 static void fill_days(void)
 {
     largest.capacity = largest.rampup = largest.rampdown = 400;
     largest.minimum = GIQAPSUN_STAGES;
-    largest.minup = largest.mindown = largest.elapsed = 8;
+    largest.minup = largest.mindown = largest.elapsed = 24;
     largest.variable = 30000;
     largest.rises = largest.falls = GIQAPSUN_STAGES;
     largest.hours = GIQAPSUN_HOURS;
@@ -105,9 +127,12 @@ static void fill_days(void)
         largest.fall[i] = (uint16_t)(GIQAPSUN_STAGES - i);
     }
     for (uint16_t k = 0; k < GIQAPSUN_HOURS; k++)
-        largest.prices[k] = k / 12 % 2 == 0 ? GIQAPSUN_PRICE_MOST : GIQAPSUN_PRICE_LEAST;
+        largest.prices[k] = k / 42 % 2 == 0 ? GIQAPSUN_PRICE_MOST : GIQAPSUN_PRICE_LEAST;
+    short_times = largest;
+    short_times.minup = short_times.mindown = GIQAPSUN_SHORT_TIME;
     longest_day = largest;
-    longest_day.hours = GIQAPSUN_DAY_MOST;
+    short_times_day = short_times;
+    longest_day.hours = short_times_day.hours = GIQAPSUN_DAY_MOST;
 }
 
 /* All calls on those days. */

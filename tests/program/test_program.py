@@ -1,5 +1,6 @@
 """What the program best_day prints for an input, byte for byte (document 01, "A program reads a case"; requests F-2 and
-F-5 for the forms of a file and for days that open and close inside a sequence)."""
+F-5 for the forms of a file and for days that open and close inside a sequence, F-6 for a week and for units with long
+minimum times)."""
 
 import os
 import re
@@ -16,6 +17,8 @@ SOURCE = (CASES / "source.case").read_bytes()
 BELOW_ZERO = (CASES / "below_zero.case").read_bytes()
 EVENING = (CASES / "evening.case").read_bytes()
 MORNING = (CASES / "morning.case").read_bytes()
+WEEK = (CASES / "week.case").read_bytes()
+BOILER = (CASES / "boiler.case").read_bytes()
 SECOND_CASE7 = (CASES / "old/form2/case7.case").read_bytes()
 SECOND_SOURCE = (CASES / "old/form2/source.case").read_bytes()
 SECOND_BELOW_ZERO = (CASES / "old/form2/below_zero.case").read_bytes()
@@ -75,14 +78,34 @@ def shortened(data, hours):
     return changed(data[:end], 14, "<2H", 5 * hours, end) + b"\3\0"
 
 
+def timed(data, minup, mindown):
+    """A file with other minimum times, which stand 8 bytes into the unit."""
+    return changed(data, data[0] + 8, "<2H", minup, mindown)
+
+
+def ordered(data, order):
+    """A file with another order in hour 1, which stands after its price."""
+    return changed(data, struct.unpack_from("<H", data, 12)[0] + (2 if data[0] == 16 else 4), "B", order)
+
+
+def lasting(data, hours):
+    """A file of a form with the first hour of its own so many times over."""
+    offset, length = struct.unpack_from("<2H", data, 12)
+    entry = length // 3
+    pairs = data[:14] + struct.pack("<H", entry * hours)
+    if data[0] == 20:
+        pairs += struct.pack("<2H", offset + entry * hours, 2)
+    return pairs + data[data[0] : offset] + hours * data[offset : offset + entry] + data[offset + length :]
+
+
 class LimitTest(unittest.TestCase):
-    """Inputs about the limit whose chain holds. Their hours are not 1 to 48 entries, so a file is refused by 2."""
+    """Inputs about the limit whose chain holds. Their hours are not 1 to 168 entries, so a file is refused by 2."""
 
     def test_up_to_the_limit_an_input_is_read_as_a_file(self):
-        for data, size in ((CASE7, 309), (SECOND_CASE7, 307), (CASE7, 4095), (CASE7, 4096), (SECOND_CASE7, 4096)):
+        for data, size in ((CASE7, 909), (SECOND_CASE7, 907), (CASE7, 4095), (CASE7, 4096), (SECOND_CASE7, 4096)):
             with self.subTest(size=size):
                 self.assertEqual(printed(long_hours(data, size)), b"refused 2\n")
-        for size in (203, 4095, 4096):
+        for size in (563, 4095, 4096):
             with self.subTest(old=size):
                 self.assertEqual(printed(old_long_hours(size)), b"refused 2\n")
 
@@ -182,6 +205,38 @@ class RefusalTest(unittest.TestCase):
         self.assertNotIn(b"refused", printed(changed(opened(1, 3, 0, 2), 28, "<H", 3)))
 
 
+    def test_hours_past_a_week(self):
+        for data in FORMS:
+            for hours in (0, 169, 256, 800):
+                self.refused(2, lasting(data, hours))
+            # before a minimum time
+            self.refused(2, timed(lasting(data, 169), 25, 25))
+
+    def test_minimum_times(self):
+        for data in FORMS:
+            for times in ((0, 1), (1, 0), (25, 1), (1, 25), (256 + 3, 1), (65535, 65535)):
+                self.refused(4, timed(data, *times))
+
+    def test_a_long_minimum_time(self):
+        """The program has numbers for minimum times of up to 8 hours: a longer one is 10, with a list and without."""
+        for data in FORMS:
+            # on-line at 3 MW, ordered off-line in hour 1: no list keeps it
+            none = ordered(data, 2)
+            for times in ((9, 1), (1, 9), (9, 9), (20, 12), (24, 24), (8, 9), (24, 8)):
+                self.refused(10, timed(data, *times))
+                self.refused(10, timed(none, *times))
+                self.refused(10, timed(lasting(data, 168), *times))
+            for times in ((8, 8), (8, 1), (1, 8)):
+                self.refused(11, timed(none, *times))
+                self.assertNotIn(b"refused", printed(timed(data, *times)))
+            # after every number of the record
+            self.refused(8, timed(ordered(data, 3), 20, 20))
+        self.refused(10, BOILER)
+        self.refused(13, changed(timed(CASE7, 9, 9), 62, "<i", MOST + 1))
+        # a shut-down that the day opens in, with its stop after 3 hours on-line; 9 are needed
+        self.refused(10, timed(opened(1, 3, 0, 2), 9, 1))
+
+
 class DayTest(unittest.TestCase):
     """The lines of a day."""
 
@@ -213,7 +268,7 @@ class DayTest(unittest.TestCase):
         """What docs/readers/control-room.md shows below a command is printed, in its order."""
         page = (ROOT / "docs/readers/control-room.md").read_text(encoding="utf-8")
         shown = re.findall(r"\n    target/bin/best_day < cases/(\w+).case\n(?:[^\n]+\n)*\n((?:    .*\n)+)", page)
-        self.assertEqual([name for name, _ in shown], ["evening", "morning"])
+        self.assertEqual([name for name, _ in shown], ["evening", "morning", "week", "boiler"])
         for name, text in shown:
             lines = iter(printed((CASES / f"{name}.case").read_bytes()).decode("ascii").splitlines())
             for line in text.splitlines():
@@ -243,8 +298,8 @@ class DayTest(unittest.TestCase):
         self.assertEqual(printed(priced(-MOST, -MOST, -MOST)), least % (-9 * (MOST + 10) - 8))
         self.assertEqual(printed(priced(MOST, MOST, MOST)), most % (23 * (MOST - 10) - 6))
 
-    def day(self, data, profit, initial):
-        """The outputs of a day of 24 hours; the profit and each line are as they have to be."""
+    def day(self, data, profit, initial, hours=24):
+        """The outputs of a day of so many hours; the profit and each line are as they have to be."""
         lines = printed(data).decode("ascii").split("\n")
         self.assertEqual((lines[0], lines[-1]), (f"profit {profit}", ""))
         before, outputs = initial, []
@@ -252,12 +307,29 @@ class DayTest(unittest.TestCase):
             outputs.append(int(line.split(" ")[1]))
             self.assertEqual(line, f"{hour} {outputs[-1]} {before + outputs[-1]}")
             before = outputs[-1]
-        self.assertEqual(len(outputs), 24)
+        self.assertEqual(len(outputs), hours)
         return outputs
 
     def test_the_source_day(self):
         for data in (SOURCE, SECOND_SOURCE, OLD_SOURCE):
             self.day(data, 33546962, 170)
+
+    def test_a_week(self):
+        """The source's day seven times over: 168 lines, the last with three digits of an hour."""
+        outputs = self.day(WEEK, 301939484, 170, 168)
+        self.assertEqual(outputs[22:27], [112, 70, 30, 0, 0])
+        self.assertEqual(printed(WEEK).splitlines()[-1], b"168 144 338")
+        # Table V's other rows; the hours of a unit with three outputs of either trajectory stand 4 bytes later
+        for hours, profit in ((48, 78279049), (96, 167743223)):
+            end = 66 + 5 * hours
+            self.day(changed(WEEK[:end], 14, "<2H", 5 * hours, end) + b"\3\0", profit, 170, hours)
+
+    def test_hours_of_every_form(self):
+        for hours in (1, 9, 10, 48, 49, 99, 100, 167, 168):
+            said = printed(lasting(CASE7, hours))
+            self.assertEqual(said.count(b"\n"), hours + 1)
+            for data in FORMS:
+                self.assertEqual(printed(lasting(data, hours)), said)
 
     def test_the_stored_days_back_to_back(self):
         self.assertEqual(self.day(EVENING, 36130586, 170)[21:], [162, 112, 70])

@@ -4,10 +4,12 @@ orders, the library alone finds it."""
 import os
 import re
 import subprocess
+from bisect import bisect_left
 from dataclasses import asdict, dataclass, replace
 from pathlib import Path
 
 from calendars import Calendar
+from days import column, days_of
 from ends import closing, stage_of, stop_after
 from faults import Fault, Refused
 from hours import agree, earnings, energies
@@ -124,15 +126,32 @@ def contradiction(case):
 
 
 def _first_not_kept(case):
-    """The first hour whose order cannot be kept together with those before it."""
-    for hour, order in enumerate(case.orders, 1):
-        if order != giqapsun.FREE:
-            later = [giqapsun.FREE] * (len(case.orders) - hour)
-            try:
-                giqapsun.best(replace(case, orders=[*case.orders[:hour], *later]))
-            except giqapsun.Refusal:
-                return hour
-    return None
+    """The first hour whose order cannot be kept together with those before it. Orders that cannot be kept together
+    cannot with others besides, so halving finds it."""
+    ordered = [hour for hour, order in enumerate(case.orders, 1) if order != giqapsun.FREE]
+    first = bisect_left(ordered, True, key=lambda hour: not _kept_up_to(case, hour))
+    return ordered[first] if first < len(ordered) else None
+
+
+def _kept_up_to(case, hour):
+    """Whether a list keeps every rule with the orders up to an hour alone."""
+    later = [giqapsun.FREE] * (len(case.orders) - hour)
+    try:
+        giqapsun.best(replace(case, orders=[*case.orders[:hour], *later]))
+    except giqapsun.Refusal:
+        return False
+    return True
+
+
+def too_few_numbers(case):
+    """What can be said where a program lends too few numbers to work in: the minimum times that ask for more."""
+    times = {name: getattr(case, name) for name in ("minup", "mindown")}
+    longer = {name: hours for name, hours in times.items() if hours > giqapsun.SHORT_TIME}
+    for name, hours in longer.items():
+        lent = f"a program that lends {giqapsun.WORK:,} numbers to work in; {giqapsun.WORK_MOST:,} are needed"
+        yield f"{name}: {hours}, from 1 to {giqapsun.SHORT_TIME} allowed by {lent}"
+    if longer:
+        yield "the library is lent as many as a case needs: bindings/build.sh builds it; set no GIQAPSUN_BEST_DAY"
 
 
 def _answered(runs, file, data):
@@ -153,7 +172,8 @@ def _answered(runs, file, data):
 
 def _refused(number, data):
     own, case, _ = case_of(data)
-    return contradiction(case) if number == 11 and own == 0 else explained(number, data)
+    words = {10: too_few_numbers, 11: contradiction}.get(number)
+    return words(case) if words and own == 0 else explained(number, data)
 
 
 def _printed(runs, reading, lines):
@@ -187,25 +207,38 @@ def _day(reading, outputs, profit, found_by):
 
 
 def best_text(day):
-    """The day hour by hour, with totals."""
-    profit, width = dollars_of_half_mills(day.profit), widest([*day.earnings, day.profit])
-    lines = [f"hour  order  price ($/MWh)  output (MW)  energy (MWh)  {'earnings ($)':>{width}}"]
-    for k, order, price, output, energy, earned in day.hours():
-        lines.append(
-            f"{k:4}  {order:5}  {dollars_of_mills(price):>13}  {output:11}"
-            f"  {megawatt_hours(energy):>12}  {dollars_of_half_mills(earned):>{width}}"
-        )
+    """The day hour by hour, with totals; more than 48 hours have those of each of their days too."""
+    lines = list(_table(day))
     if day.calendar is not None:
         windows = (f"{window}, line {window.line}" if window else "" for window in day.calendar.windows())
-        beside = ["window (first+hours)", *windows]
+        beside = ["window (first+hours)", *windows, ""]
         lines = [f"{line}  {words}".rstrip() for line, words in zip(lines, beside)]
-    lines.append(f"total{'':34}  {megawatt_hours(sum(day.energies)):>12}  {profit:>{width}}")
     lines += [f"profit {day.profit} half-mills", *day.closing()]
     if day.calendar is not None:
         lines += [f"calendar {day.calendar.name}: {day.calendar.day}", *day.calendar.replaced()]
     found = "the library" if day.found_by == "library" else f"the program {day.found_by}"
     lines.append(f"{BY[day.reading.by]}; found by {found}")
     return "\n".join(lines) + "\n"
+
+
+def _table(day):
+    """A line for each hour and each of their days, below that of the columns, and the total."""
+    days = {ended.last: ended for ended in days_of(len(day.outputs))}
+    earned_in = {ended: sum(ended.of(day.earnings)) for ended in days.values()}
+    width = widest([*day.earnings, *earned_in.values(), day.profit])
+    head, places = column(len(day.outputs))
+    yield f"hour{head}  order  price ($/MWh)  output (MW)  energy (MWh)  {'earnings ($)':>{width}}"
+    for (k, order, price, output, *amounts), place in zip(day.hours(), places):
+        yield f"{k:4}{place}  {order:5}  {dollars_of_mills(price):>13}  {output:11}{_amounts(*amounts, width)}"
+        if k in days:
+            energy, earned = sum(days[k].of(day.energies)), earned_in[days[k]]
+            yield f"{f'day {days[k].number}':{39 + len(head)}}{_amounts(energy, earned, width)}"
+    yield f"{'total':{39 + len(head)}}{_amounts(sum(day.energies), day.profit, width)}"
+
+
+def _amounts(energy, earned, width):
+    """The last two columns."""
+    return f"  {megawatt_hours(energy):>12}  {dollars_of_half_mills(earned):>{width}}"
 
 
 def best_json(day):

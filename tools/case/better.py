@@ -4,6 +4,7 @@ reason is found from the two verdicts, and a choice that they do not give is a f
 from dataclasses import dataclass
 
 from check import Checked, checked, other_length
+from days import column, days_of
 from faults import Fault, Refused, named
 from hours import agree, earnings
 from module import giqapsun
@@ -38,6 +39,10 @@ class House:
     def profit(self):
         """What the list earns in half-mills, if it passes."""
         return self.checked.verdict.profit
+
+    def earned_in(self, day):
+        """What the hours of a day earn in half-mills, None where the list breaks a rule."""
+        return sum(day.of(self.earnings)) if self.checked.passes else None
 
     @property
     def name(self):
@@ -154,23 +159,37 @@ def _difference(first, second):
 
 
 def better_text(pair):
-    """The lists hour by hour, the verdict on each, and which to offer."""
-    width = widest([*pair.first.earnings, *pair.second.earnings])
-    lines = [
-        f"{'':26}  {'output (MW)':>15}  {'earnings ($)':>{2 * width + 2}}",
-        f"hour  order  price ($/MWh)  {'first':>6}   {'second':>6}  {'first':>{width}}  {'second':>{width}}",
-    ]
-    for k, order, price, first, second, earned, others in pair.hours():
-        mark = "<" if first < second else ">" if first > second else " "
-        lines.append(
-            f"{k:4}  {order:5}  {dollars_of_mills(price):>13}  {first:6} {mark} {second:6}"
-            f"  {dollars_of_half_mills(earned):>{width}}  {dollars_of_half_mills(others):>{width}}"
-        )
-    lines.append("")
+    """The lists hour by hour, the verdict on each, and which to offer; more than 48 hours have what each of their days
+    earns too."""
+    lines = [*_table(pair), ""]
     for house in (pair.first, pair.second):
         verdict, *breach = house.checked.lines()
         lines += [f"the {house.place}, {house.name}, {verdict}", *(f"    {line}" for line in breach)]
     return "\n".join([*lines, _differ(pair), offer(pair), BY[pair.reading.by]]) + "\n"
+
+
+def _table(pair):
+    """A line for each hour and each of their days, below those of the columns."""
+    houses, hours = (pair.first, pair.second), len(pair.first.outputs)
+    days = {day.last: [day.number, *(house.earned_in(day) for house in houses)] for day in days_of(hours)}
+    sums = [earned for _, *of_both in days.values() for earned in of_both if earned is not None]
+    width = widest([*pair.first.earnings, *pair.second.earnings, *sums])
+    head, places = column(hours)
+    yield f"{'':{26 + len(head)}}  {'output (MW)':>15}  {'earnings ($)':>{2 * width + 2}}"
+    yield f"hour{head}  order  price ($/MWh)  {'first':>6}   {'second':>6}{_both('first', 'second', width)}"
+    for (k, order, price, first, second, *earned), place in zip(pair.hours(), places):
+        mark = "<" if first < second else ">" if first > second else " "
+        hour = f"{k:4}{place}  {order:5}  {dollars_of_mills(price):>13}  {first:6} {mark} {second:6}"
+        yield hour + _both(*map(dollars_of_half_mills, earned), width)
+        if k in days:
+            number, *earned = days[k]
+            amounts = ("" if amount is None else dollars_of_half_mills(amount) for amount in earned)
+            yield f"{f'day {number}':{len(hour)}}{_both(*amounts, width)}".rstrip()
+
+
+def _both(first, second, width):
+    """The last two columns."""
+    return f"  {first:>{width}}  {second:>{width}}"
 
 
 def _differ(pair):

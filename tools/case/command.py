@@ -35,9 +35,9 @@ mindown, elapsed (hours), rise, fall (lists of MW), and for each of variable (F,
 startcost (B, per start) and stopcost (C, per stop) either a key in dollars, as variable_dollars, with up to three
 decimals, or one in mills, as variable_mills. A unit that opens inside a start-up or a shut-down has start_up_stage or
 shut_down_stage too, the stage that initial is the output of. The prices' file begins with the line hour,price_dollars
-or hour,price_mills, with ,order after it if any hour has an order, and has a line for each hour. A price is from
--10,000 to 10,000 dollars. The file is of form 3. It is read again before it is written: a case that would be refused is
-not written.
+or hour,price_mills, with ,order after it if any hour has an order, and has a line for each hour, up to the 168 of a
+week. A price is from -10,000 to 10,000 dollars. The file is of form 3. It is read again before it is written: a case
+that would be refused is not written.
 """
 
 SHOW = """\

@@ -10,7 +10,7 @@ from module import giqapsun
 from money import dollars_of_mills
 from words import COSTS, ORDERS, STAGES, counted
 
-OUTPUT, TIME, ELAPSED = 400, 8, 10_000
+OUTPUT, TIME, ELAPSED = 400, 24, 10_000
 VARIABLE, CHARGE = 1_000_000, 100_000_000
 
 

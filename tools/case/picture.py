@@ -1,5 +1,6 @@
 """The parts of an SVG picture of a day: panels one above the other with hours along each, the prices, the hatches of
-ordered hours.
+ordered hours. Up to 48 hours have their amounts below, hour by hour. More are divided into days by lines, and have the
+amounts of each day; the panels are then wide enough for the hours.
 
 Nothing is told by colour alone: ordered hours are hatched and lettered. Every colour has a class, so that a dark
 screen gets colours of its own and paper those of the light.
@@ -8,12 +9,16 @@ screen gets colours of its own and paper those of the light.
 from html import escape
 from itertools import groupby
 
+from days import days_of, divided, named
 from ends import stage_of
 from money import dollars_of_mills
 from words import ORDERS, counted
 
-WIDTH = 976
-LEFT, RIGHT = 100, 862
+# where the panels of undivided hours end to the left and to the right, and the room beside them there
+LEFT, RIGHT, MARGIN = 100, 862, 114
+
+# the width of an hour at the least where hours are divided into days
+HOUR = 8
 
 # the width of a letter above a panel, at the most
 LETTER = 6.5
@@ -21,8 +26,11 @@ LETTER = 6.5
 # letters of a file's name that a line has room for
 MOST = 60
 
-# from the bottom of a panel to the amounts that stand below it
-BELOW = 28
+# from the bottom of a panel to the amounts that stand below it, and from a line of those of a day to the next
+BELOW, LINE = 28, 14
+
+# hours from a number below a panel to the next, and from a mark of a list to the next, where hours are divided
+APART = 6
 
 STYLE = """\
 text { font-family: 'DejaVu Sans', Verdana, sans-serif; font-size: 12px; fill: #1a1a1a; }
@@ -94,14 +102,15 @@ class Panel:
     """A panel: hours across, an amount up from the least, which is 0 or below, to the most."""
 
     def __init__(self, hours, least, most, place):
-        self.hours, (self.top, self.bottom) = hours, place
+        self.hours, (self.top, self.bottom), self.right = hours, place, right_of(hours)
+        self.days = days_of(hours)
         self.step = _step(most - least)
         self.least = least // self.step * self.step
         self.most = max(self.least + self.step, -(-most // self.step) * self.step)
 
     def x(self, hour):
         """The place across of the end of an hour."""
-        return LEFT + (RIGHT - LEFT) * hour / self.hours
+        return LEFT + (self.right - LEFT) * hour / self.hours
 
     def y(self, amount):
         """The place up of an amount."""
@@ -112,18 +121,21 @@ class Panel:
         return f"{self.x(hour):.1f},{self.y(amount):.1f}"
 
     def frame(self, label, written):
-        """Grid, axes, ticks and the label of the upward axis."""
+        """Grid, axes, ticks, the ends of days and the label of the upward axis."""
         for amount in range(self.least, self.most + 1, self.step):
             y = self.y(amount)
-            yield line(LEFT, y, RIGHT, y, "grid")
+            yield line(LEFT, y, self.right, y, "grid")
             yield text(LEFT - 8, y + 4, written(amount), anchor="end")
+        apart = APART if self.days else 1 if self.hours <= 24 else 2
         for hour in range(self.hours + 1):
             x = self.x(hour)
             yield line(x, self.bottom, x, self.bottom + 5, "axis")
-            if hour % (1 if self.hours <= 24 else 2) == 0:
+            if hour % apart == 0:
                 yield text(x, self.bottom + 19, str(hour), anchor="middle")
+        for day in self.days[:-1]:
+            yield line(self.x(day.last), self.top, self.x(day.last), self.bottom + 5, "edge")
         yield line(LEFT, self.top, LEFT, self.bottom, "axis")
-        yield line(LEFT, self.y(0), RIGHT, self.y(0), "axis")
+        yield line(LEFT, self.y(0), self.right, self.y(0), "axis")
         yield turned(18, (self.top + self.bottom) / 2, label, anchor="middle")
 
     def shades(self, orders):
@@ -131,15 +143,27 @@ class Panel:
         for order, start, end in runs(orders):
             yield rect(self.x(start), self.top, self.x(end) - self.x(start), self.bottom - self.top, order)
 
-    def letters(self, named):
-        """The name of each run of hours, above the panel; its first word alone where the run is too short for it."""
-        for name, start, end in named:
-            words = name if LETTER * len(name) <= self.x(end) - self.x(start) else name.split()[0]
-            yield text(self.x((start + end) / 2), self.top - 4, words, anchor="middle", kind="letters")
+    def letters(self, names):
+        """The name of each run of hours, above the panel; its first word alone where the run is too short for it. Where
+        hours are divided, a run too short for that has its hatch alone."""
+        for name, start, end in names:
+            room = self.x(end) - self.x(start)
+            words = name if LETTER * len(name) <= room else name.split()[0]
+            if not self.days or LETTER * len(words) <= room:
+                yield text(self.x((start + end) / 2), self.top - 4, words, anchor="middle", kind="letters")
 
     def amount(self, hour, words):
-        """An amount of an hour, upwards below the panel."""
-        return turned(self.x(hour - 0.5) + 3.5, self.bottom + BELOW, words, anchor="end", kind="amount")
+        """An amount of an hour, upwards below the panel; none where hours are divided."""
+        if not self.days:
+            yield turned(self.x(hour - 0.5) + 3.5, self.bottom + BELOW, words, anchor="end", kind="amount")
+
+    def of_day(self, day, *lines):
+        """The name of a day and lines below it, in its middle; from its beginning on where it is too short for them."""
+        start, end, lines = self.x(day.first - 1), self.x(day.last), (f"day {day.number}", *lines)
+        fits = LETTER * max(map(len, lines)) <= end - start
+        x, anchor = ((start + end) / 2, "middle") if fits else (start, "start")
+        for i, words in enumerate(lines, 1):
+            yield text(x, self.bottom + BELOW + LINE * i, words, anchor, "amount")
 
     def level(self, amount):
         """An amount, or the end of the scale where it is off it."""
@@ -150,20 +174,26 @@ class Panel:
         words = []
         for mark, side, edge, way in (("\u25b2", "above", self.top, 1), ("\u25bc", "below", self.bottom, -1)):
             hours = [hour for hour, amount in enumerate(amounts, 1) if way * amount > way * self.level(amount)]
-            yield from (triangle(self.x(hour - 0.5), edge, way, kind) for hour in hours)
+            half = min(5, (self.x(1) - self.x(0)) / 2)
+            yield from (triangle(self.x(hour - 0.5), half, edge, way, kind) for hour in hours)
             if hours:
                 words.append(f"{mark} {counted(len(hours), noun)} {side} this scale")
         if words:
             yield text(LEFT, self.top - 12, ", ".join(words), kind="note")
 
-    def limits(self, named, gap=14):
+    def limits(self, amounts, gap=14):
         """Dashed lines for amounts with a name; the names stand to the right, kept apart."""
         lowest = self.bottom + 4
-        for amount, name in sorted(named):
+        for amount, name in sorted(amounts):
             y = self.y(amount)
             lowest = min(y + 4, lowest - gap)
-            yield line(LEFT, y, RIGHT, y, "limit")
-            yield text(RIGHT + 8, lowest, name, kind="note")
+            yield line(LEFT, y, self.right, y, "limit")
+            yield text(self.right + 8, lowest, name, kind="note")
+
+
+def right_of(hours):
+    """Where the panels of so many hours end to the right."""
+    return max(RIGHT, LEFT + HOUR * hours) if divided(hours) else RIGHT
 
 
 def scale(amounts):
@@ -175,20 +205,24 @@ def scale(amounts):
     return min(0, *near), max(0, *near)
 
 
-def picture(height, heading, note, key, parts):
-    """A picture of a height: a heading, a note below it, the key of the hatches, and the parts."""
+def picture(height, hours, heading, note, key, parts):
+    """A picture of a height and of so many hours: a heading, a note below it, the key of the hatches, and the parts."""
+    width = right_of(hours) + MARGIN
+    ticks = "each tick is the end of its hour, each line that of a day" if divided(hours) else (
+        "each tick is the end of its hour"
+    )
     lines = [
-        f'<svg xmlns="http://www.w3.org/2000/svg" width="{WIDTH}" height="{height}" '
-        f'viewBox="0 0 {WIDTH} {height}" role="img">',
+        f'<svg xmlns="http://www.w3.org/2000/svg" width="{width}" height="{height}" '
+        f'viewBox="0 0 {width} {height}" role="img">',
         f"<title>{escape(heading)}: {escape(note)}</title>",
         f"<style>{STYLE}</style>",
         *_hatches(),
-        rect(0, 0, WIDTH, height, "paper"),
+        rect(0, 0, width, height, "paper"),
         text(LEFT, 34, heading, kind="title"),
         text(LEFT, 56, note, kind="note"),
         *key,
         *parts,
-        text((LEFT + RIGHT) / 2, height - 14, "hour k (each tick is the end of its hour)", "middle"),
+        text((LEFT + right_of(hours)) / 2, height - 14, f"hour k ({ticks})", "middle"),
         "</svg>",
     ]
     return "\n".join(lines) + "\n"
@@ -213,7 +247,7 @@ class Outputs(Panel):
         if stage:
             yield text(LEFT, y, f"opens in {stage}", kind="note")
         if closes:
-            yield text(RIGHT, y, closes, anchor="end", kind="note")
+            yield text(self.right, y, closes, anchor="end", kind="note")
 
     def points(self, outputs):
         """The place of p(0) and of each output."""
@@ -229,7 +263,8 @@ class Prices(Panel):
         super().__init__(len(case.prices), low, max(high, case.variable if self.holds_cost else 0), place)
 
     def drawn(self):
-        """The price of each hour, level from its beginning to its end, with its number below; and F."""
+        """The price of each hour, level from its beginning to its end, with its number below, or the least and the most
+        of each day; and F."""
         prices, cost = self.case.prices, self.case.variable
         yield from self.shades(self.case.orders)
         yield from self.frame("price ($/MWh)", lambda mills: short(dollars_of_mills(mills)))
@@ -237,9 +272,12 @@ class Prices(Panel):
             yield from self.limits([(cost, "variable cost F")])
         else:
             words = f"variable cost F {dollars_of_mills(cost)} $/MWh is above this scale"
-            yield text(RIGHT, self.top - 12, words, anchor="end", kind="note")
+            yield text(self.right, self.top - 12, words, anchor="end", kind="note")
         for hour, price in enumerate(prices, 1):
-            yield self.amount(hour, dollars_of_mills(price))
+            yield from self.amount(hour, dollars_of_mills(price))
+        for day in self.days:
+            least, most = (dollars_of_mills(end(day.of(prices))) for end in (min, max))
+            yield from self.of_day(day, f"least {least}", f"most {most}")
         yield from self.cuts(prices, "price", "cut")
         yield from (polyline(points, "line price") for points in self._lines(prices) if len(set(points)) > 1)
 
@@ -263,9 +301,9 @@ def hovers(hours, place, titles):
         yield f"<g><title>{escape(title)}</title>{over}</g>"
 
 
-def ordered(k, order, by=""):
-    """An hour and its order, at the beginning of a title; `by` says what gives the order."""
-    return f"hour {k}" if order == "free" else f"hour {k} (ordered {order}-line{by})"
+def ordered(k, hours, order, by=""):
+    """An hour of so many and its order, at the beginning of a title; `by` says what gives the order."""
+    return named(k, hours) if order == "free" else f"{named(k, hours)} (ordered {order}-line{by})"
 
 
 def _hatches():
@@ -292,7 +330,7 @@ def legend(orders, meaning="ordered {}-line"):
     """What the hatches of hours mean, if any hour has an order."""
     names = sorted({ORDERS[order] for order in orders if order}, reverse=True)
     for i, order in enumerate(names):
-        x = RIGHT - 150 * (len(names) - i)
+        x = right_of(len(orders)) - 150 * (len(names) - i)
         yield rect(x, 24, 20, 14, f"{order} swatch")
         yield text(x + 26, 35, f"{order}: {meaning.format(order)}", kind="note")
 
@@ -319,9 +357,10 @@ def square(point):
     return rect(x - 5.5, y - 5.5, 11, 11, "square")
 
 
-def triangle(x, y, way, kind):
-    """A triangle on an edge that points away from it, up (1) or down (-1)."""
-    return f'<polygon class="{kind}" points="{x - 5:.1f},{y:.1f} {x + 5:.1f},{y:.1f} {x:.1f},{y - 8 * way:.1f}"/>'
+def triangle(x, half, y, way, kind):
+    """A triangle of half a width on an edge that points away from it, up (1) or down (-1)."""
+    ends = f"{x - half:.1f},{y:.1f} {x + half:.1f},{y:.1f}"
+    return f'<polygon class="{kind}" points="{ends} {x:.1f},{y - 8 * way:.1f}"/>'
 
 
 def line(x1, y1, x2, y2, kind):

@@ -1,7 +1,8 @@
 """The best day as an SVG picture: outputs, prices and earnings one above the other, hours along all three. Losses are
 hatched and stand below 0. The windows of a calendar are named above their hours, and their ends have lines. A sequence
-that the day opens or closes in is named below its outputs."""
+that the day opens or closes in is named below its outputs. More than 48 hours are divided into days."""
 
+from days import divided
 from ends import closes
 from money import decimal, dollars_of_half_mills, dollars_of_mills, megawatt_hours
 from picture import (
@@ -23,16 +24,18 @@ def svg(day, name):
     parts = [
         *_outputs(day),
         *Prices(case, PRICES).drawn(),
-        *_earnings(case, day.earnings),
+        *_earnings(case, day.earnings, day.energies),
         *(_windows(day) if day.calendar else ()),
         *hovers(len(day.outputs), (OUTPUTS[0], EARNINGS[1]), _titles(day)),
     ]
-    return picture(HEIGHT, f"Best day of {printable(name)}", earned, key, parts)
+    hours = len(day.outputs)
+    best = f"Best {hours} hours of" if divided(hours) else "Best day of"
+    return picture(HEIGHT, hours, f"{best} {printable(name)}", earned, key, parts)
 
 
 def _outputs(day):
-    """The output over the day: straight within each hour, a dot at the end of each, and the area below; the orders or
-    the windows named above, the sequences at its ends below."""
+    """The output over the day: straight within each hour, a dot at the end of each unless they are divided, and the
+    area below; the orders or the windows named above, the sequences at its ends below."""
     case, outputs = day.reading.case, day.outputs
     panel = Outputs(case, outputs, OUTPUTS)
     yield from panel.ground()
@@ -43,11 +46,11 @@ def _outputs(day):
     yield f'<polygon class="area" points="{area}"/>'
     yield polyline(points, "line output")
     yield dot(points[0], "dot before")
-    yield from map(dot, points[1:])
+    yield from map(dot, points[1:] if not panel.days else ())
 
 
-def _earnings(case, earnings):
-    """What each hour earns: a bar, and the amount below it."""
+def _earnings(case, earnings, energies):
+    """What each hour earns: a bar, and the amount below it, or those of each day with its energy."""
     parts = [5 * earned for earned in earnings]
     panel = Panel(len(earnings), *scale(parts), EARNINGS)
     yield from panel.shades(case.orders)
@@ -56,7 +59,10 @@ def _earnings(case, earnings):
         x, width = panel.x(hour - 0.82), panel.x(0.64) - panel.x(0)
         top, bottom = panel.y(panel.level(max(part, 0))), panel.y(panel.level(min(part, 0)))
         yield rect(x, top, width, bottom - top, "gain" if part > 0 else "loss")
-        yield panel.amount(hour, dollars_of_half_mills(earned))
+        yield from panel.amount(hour, dollars_of_half_mills(earned))
+    for day in panel.days:
+        earned, energy = sum(day.of(earnings)), sum(day.of(energies))
+        yield from panel.of_day(day, f"{dollars_of_half_mills(earned)} $", f"{megawatt_hours(energy)} MWh")
     yield from panel.cuts(parts, "amount", "far")
 
 
@@ -77,13 +83,15 @@ def _windows(day):
 
 def _titles(day):
     """A title for each hour, with the window that gives its order."""
-    windows = day.calendar.windows() if day.calendar else [None] * len(day.outputs)
-    for hour, window in zip(day.hours(), windows):
-        yield _title(*hour, f" by the window {window}, line {window.line}" if window else "")
+    hours = len(day.outputs)
+    windows = day.calendar.windows() if day.calendar else [None] * hours
+    for (k, order, *amounts), window in zip(day.hours(), windows):
+        by = f" by the window {window}, line {window.line}" if window else ""
+        yield _title(ordered(k, hours, order, by), *amounts)
 
 
-def _title(k, order, price, output, energy, earned, by):
+def _title(hour, price, output, energy, earned):
     return (
-        f"{ordered(k, order, by)}: {output} MW at its end, {megawatt_hours(energy)} MWh at {dollars_of_mills(price)} "
+        f"{hour}: {output} MW at its end, {megawatt_hours(energy)} MWh at {dollars_of_mills(price)} "
         f"$/MWh, earns {dollars_of_half_mills(earned)} $"
     )

@@ -1,10 +1,10 @@
 """Two lists as an SVG picture: the outputs of both above the prices, hours along both. The first is a full line with
 dots, the second a dashed line with squares, so that they are told apart without colours; a mark stands under the end of
-each hour where they differ."""
+each hour where they differ. More than 48 hours are divided into days, and the dots and squares stand farther apart."""
 
 from money import dollars_of_half_mills, dollars_of_mills
 from picture import (
-    LEFT, RIGHT, Outputs, Prices, dot, hovers, legend, ordered, picture, polyline, rect, runs, shortened, square, text,
+    APART, LEFT, Outputs, Prices, dot, hovers, legend, ordered, picture, polyline, rect, runs, shortened, square, text,
 )
 from words import printable
 
@@ -17,7 +17,7 @@ DRAWN = {"first": ("line output", dot, 80), "second": ("line other", square, 102
 
 def svg_of_two(pair, name):
     """The picture of two lists, with the name of their case for a title."""
-    case = pair.reading.case
+    case, hours = pair.reading.case, len(pair.first.outputs)
     chosen, _ = pair.chosen
     which = f"the {chosen.place}" if chosen else "neither"
     parts = [
@@ -25,10 +25,10 @@ def svg_of_two(pair, name):
         *_key(pair.second),
         *_outputs(pair),
         *Prices(case, PRICES).drawn(),
-        *hovers(len(case.prices), (OUTPUTS[0], PRICES[1]), map(_title, pair.hours())),
+        *hovers(hours, (OUTPUTS[0], PRICES[1]), (_title(hours, *hour) for hour in pair.hours())),
     ]
     heading, note = f"Two lists for {printable(name)}", f"offer {which}: {pair.why()}"
-    return picture(HEIGHT, heading, note, legend(case.orders), parts)
+    return picture(HEIGHT, hours, heading, note, legend(case.orders), parts)
 
 
 def _key(house):
@@ -46,7 +46,8 @@ def _key(house):
 
 
 def _outputs(pair):
-    """Both lists over the day: straight within each hour, a mark at the end of each."""
+    """Both lists over the day: straight within each hour, a mark at the end of each, or of some where hours are
+    divided."""
     case = pair.reading.case
     panel = Outputs(case, [*pair.first.outputs, *pair.second.outputs], OUTPUTS)
     yield from panel.ground()
@@ -56,17 +57,16 @@ def _outputs(pair):
         kind, mark, _ = DRAWN[house.place]
         points = panel.points(house.outputs)
         yield polyline(points, kind)
-        yield from map(mark, points[1:])
+        yield from map(mark, points[APART::APART] if panel.days else points[1:])
     yield dot(points[0], "dot before")
     differ = [k for k, _, _, first, second, _, _ in pair.hours() if first != second]
     yield from (rect(panel.x(k) - 4, panel.bottom + 27, 8, 6, "differs") for k in differ)
     if differ:
-        yield text(RIGHT + 12, panel.bottom + 34, "they differ", kind="note")
+        yield text(panel.right + 12, panel.bottom + 34, "they differ", kind="note")
 
 
-def _title(hour):
-    k, order, price, first, second, earned, others = hour
+def _title(hours, k, order, price, first, second, earned, others):
     return (
-        f"{ordered(k, order)}, {dollars_of_mills(price)} $/MWh: {first} MW in the first, which earns "
+        f"{ordered(k, hours, order)}, {dollars_of_mills(price)} $/MWh: {first} MW in the first, which earns "
         f"${dollars_of_half_mills(earned)}; {second} MW in the second, which earns ${dollars_of_half_mills(others)}"
     )

@@ -2,6 +2,7 @@
 
 from dataclasses import asdict
 
+from days import column, days_of
 from ends import stage_of
 from layout import FORM, OLD, SECOND
 from money import dollars_of_mills
@@ -28,10 +29,18 @@ def shown_text(reading):
             lines.append(_cost(case, name) if name in COSTS else _number(case, name))
     lines += [_trajectory(case, name) for name in TRAJECTORIES]
     lines.append(f"{'hours':9} {len(case.prices):>11} {'':13} T, the hours of the day")
-    lines += ["", "hour  price (mills/MWh)  price ($/MWh)  order"]
-    for k, (price, order) in enumerate(zip(case.prices, case.orders), 1):
-        lines.append(f"{k:4}  {price:17}  {dollars_of_mills(price):>13}  {ORDERS[order]}")
-    return "\n".join([*lines, "", BY[reading.by]]) + "\n"
+    return "\n".join([*lines, "", *_hours(case), "", BY[reading.by]]) + "\n"
+
+
+def _hours(case):
+    """The table of the hours, with an empty line between days."""
+    head, places = column(len(case.prices))
+    firsts = {day.first for day in days_of(len(case.prices)) if day.number > 1}
+    yield f"hour{head}  price (mills/MWh)  price ($/MWh)  order"
+    for k, (place, price, order) in enumerate(zip(places, case.prices, case.orders), 1):
+        if k in firsts:
+            yield ""
+        yield f"{k:4}{place}  {price:17}  {dollars_of_mills(price):>13}  {ORDERS[order]}"
 
 
 def shown_json(reading):

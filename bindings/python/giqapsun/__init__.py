@@ -4,8 +4,8 @@ year's calendar, the better of two lists is told, and what a list leaves for the
 
 Outputs are whole megawatts, prices and costs mills (thousandths of a dollar), profits half-mills (2,000 to
 the dollar, exact). A price may be below 0: it is from PRICE_LEAST to PRICE_MOST. Hours are counted from 1;
-hour 0 is the one before the day. A day may open inside a start-up or a shut-down, and close inside one; C belongs
-to the day that holds the stop.
+hour 0 is the one before the day. A day is the hours of one case, up to the 168 of a week. It may open inside a
+start-up or a shut-down, and close inside one; C belongs to the day that holds the stop.
 
     import giqapsun
 
@@ -41,18 +41,20 @@ from dataclasses import dataclass, field, fields
 from functools import lru_cache
 from typing import SupportsIndex, TypeVar
 
-from ._boundary import DAY_LEAST, DAY_MOST, FILE_MOST, HOURS, PRICE_LEAST, PRICE_MOST, STAGES, WORK, YEAR_HOURS
+from ._boundary import (
+    DAY_LEAST, DAY_MOST, FILE_MOST, HOURS, PRICE_LEAST, PRICE_MOST, SHORT_TIME, STAGES, WORK, WORK_MOST, YEAR_HOURS,
+)
 from ._boundary import Case as _Case
 from ._boundary import LibraryError, calls, library_file
 from ._texts import REFUSALS, RULES
 
-__version__ = "3.0.0"
+__version__ = "4.0.0"
 
 __all__ = [
     "Case", "Opening", "Passes", "Breaks", "Plan", "First", "Second", "Neither", "Refusal", "LibraryError",
-    "read", "write", "check", "best", "best_by_calendar", "compare", "better", "opening_after", "library_file",
-    "FREE", "ON", "OFF", "STAGES", "HOURS", "PRICE_LEAST", "PRICE_MOST", "YEAR_HOURS", "DAY_HOURS",
-    "REFUSALS", "RULES",
+    "read", "write", "check", "best", "best_by_calendar", "compare", "better", "opening_after", "working_numbers",
+    "library_file", "FREE", "ON", "OFF", "STAGES", "HOURS", "SHORT_TIME", "WORK", "WORK_MOST", "PRICE_LEAST",
+    "PRICE_MOST", "YEAR_HOURS", "DAY_HOURS", "REFUSALS", "RULES",
 ]
 
 # orders of an hour
@@ -85,8 +87,8 @@ class Case:
     minimum: int = 0  # minimum output, MW
     rampup: int = 0  # RU, MW per hour
     rampdown: int = 0  # RD, MW per hour
-    minup: int = 0  # minimum up time, hours
-    mindown: int = 0  # minimum down time, hours
+    minup: int = 0  # minimum up time, hours, 1 to 24
+    mindown: int = 0  # minimum down time, hours, 1 to 24
     variable: int = 0  # F, mills per MWh
     fixed: int = 0  # A, mills per on-line hour
     startcost: int = 0  # B, mills per start
@@ -260,6 +262,12 @@ def opening_after(case: Case, outputs: Iterable[SupportsIndex]) -> Opening:
     return Opening(initial, elapsed, downstage=later.index(initial) + 2 if initial in later else 0)
 
 
+def working_numbers(case: Case) -> int:
+    """How many numbers a search of a case is lent to work in: WORK where both minimum times are at most SHORT_TIME,
+    WORK_MOST otherwise, for a case that would be refused too. `best` and `best_by_calendar` lend as many."""
+    return calls().work(_record(case))
+
+
 _LISTS = ("rise", "fall", "prices", "orders")
 _NUMBERS = tuple(f.name for f in fields(Case) if f.name not in _LISTS)
 _KINDS = dict(_Case._fields_)
@@ -332,9 +340,11 @@ def _lent(kind, entries):
 
 
 def _planned(call, case, *calendar):
-    """The plan that a call finds, with numbers to work in and room for the outputs lent to it."""
-    work, outputs = (ctypes.c_int64 * WORK)(), (ctypes.c_uint16 * HOURS)()
-    plan = call(_record(case), *calendar, work, WORK, outputs, HOURS)
+    """The plan that a call finds, with as many numbers to work in as the case needs and room for the outputs lent."""
+    record = _record(case)
+    numbers = calls().work(record)
+    work, outputs = (ctypes.c_int64 * numbers)(), (ctypes.c_uint16 * HOURS)()
+    plan = call(record, *calendar, work, numbers, outputs, HOURS)
     _test(plan.number)
     return Plan(outputs[: len(case.prices)], plan.profit)
 

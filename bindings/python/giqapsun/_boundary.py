@@ -6,8 +6,10 @@ from functools import lru_cache
 from pathlib import Path
 
 STAGES = 8
-HOURS = 48
+HOURS = 168
+SHORT_TIME = 8
 WORK = 8192
+WORK_MOST = 32_768
 FILE_MOST = 20 + 34 + 2 * STAGES * 2 + 5 * HOURS + 2
 PRICE_LEAST = -10_000_000
 PRICE_MOST = 10_000_000
@@ -16,7 +18,7 @@ DAY_LEAST = 23
 DAY_MOST = 25
 
 # the number of the record's layout, which ends the name of each call
-LAYOUT = 3
+LAYOUT = 4
 
 
 class LibraryError(OSError):
@@ -102,6 +104,7 @@ _CALLS = {
     "best": (Plan, [Case, *_NUMBERS, *_LIST]),
     "better": (Choice, [Case, *_LIST, *_LIST]),
     "best_by_calendar": (Plan, [Case, *_LIST, *_LIST, ctypes.c_uint16, ctypes.c_uint16, *_NUMBERS, *_LIST]),
+    "work": (ctypes.c_size_t, [Case]),
 }
 
 
@@ -127,7 +130,7 @@ def calls():
 
 
 class _Calls:
-    """read, write, check, best, better and best_by_calendar."""
+    """read, write, check, best, better, best_by_calendar and work."""
 
     def __init__(self, file, library):
         for name, (answer, arguments) in _CALLS.items():

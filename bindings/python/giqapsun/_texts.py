@@ -9,7 +9,7 @@ REFUSALS: dict[int, str] = {
     2: "a section length, or a count in a record, not as laid down; by calendar, T not the day's number of hours",
     12: "form number neither 2 nor 3",
     3: "minimum output 0 or above capacity, or capacity above 400",
-    4: "RU or RD outside 1 to 400, or a minimum time outside 1 to 8",
+    4: "RU or RD outside 1 to 400, or a minimum time outside 1 to 24",
     5: "F not from 0 to 1,000,000, or A, B or C not from 0 to 100,000,000",
     6: "PU not strictly rising from 1 or more to the minimum output, "
        "or PD not strictly falling from the minimum output to 1 or more",
@@ -20,7 +20,8 @@ REFUSALS: dict[int, str] = {
     8: "an order byte above 2",
     13: "a price outside -10,000,000 to 10,000,000",
     9: "checked list not of T outputs",
-    10: "lent memory short: 8,192 signed 64-bit numbers to work in, T outputs, or the written file's bytes",
+    10: "lent memory short: 8,192 signed 64-bit numbers to work in, 32,768 where a minimum time is above 8, "
+        "T outputs, or the written file's bytes",
     11: "best list asked for, and no list keeps every rule",
 }
 

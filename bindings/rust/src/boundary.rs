@@ -3,16 +3,22 @@
 
 /// Number of the layout of these structs. The library's functions carry it in their names, so that a library of
 /// another layout does not link.
-pub const LAYOUT: u32 = 3;
+pub const LAYOUT: u32 = 4;
 
 /// Entries that a record has room for in a trajectory.
 pub const STAGES: usize = 8;
 
 /// Hours that a record has room for.
-pub const HOURS: usize = 48;
+pub const HOURS: usize = 168;
 
-/// Signed 64-bit numbers that the search is lent to work in.
+/// Hours up to which a minimum time is short: where both are, a search needs the fewer numbers.
+pub const SHORT_TIME: u16 = 8;
+
+/// Signed 64-bit numbers that a search is lent to work in where both minimum times are at most [`SHORT_TIME`].
 pub const WORK: usize = 8192;
+
+/// Signed 64-bit numbers that a search is lent to work in otherwise; they are enough for every case.
+pub const WORK_MOST: usize = 32_768;
 
 /// Bytes of the longest file: pairs, unit, two trajectories, hours, form number.
 pub const FILE_MOST: usize = 20 + 34 + 2 * STAGES * 2 + 5 * HOURS + 2;
@@ -54,9 +60,9 @@ pub struct Case {
     pub rampup: u16,
     /// Ramp-down limit RD in MW per hour.
     pub rampdown: u16,
-    /// Minimum up time in hours.
+    /// Minimum up time in hours, 1 to 24.
     pub minup: u16,
-    /// Minimum down time in hours.
+    /// Minimum down time in hours, 1 to 24.
     pub mindown: u16,
     /// F in mills per MWh.
     pub variable: i32,
@@ -86,7 +92,7 @@ pub struct Case {
     pub rises: usize,
     /// DD: how many entries of `fall` count, 1 to 8.
     pub falls: usize,
-    /// T: how many entries of `prices` and `orders` count, 1 to 48.
+    /// T: how many entries of `prices` and `orders` count, 1 to 168.
     pub hours: usize,
 }
 
@@ -180,30 +186,31 @@ pub struct Choice {
 // of giqapsun_better, and the two of windows of giqapsun_best_by_calendar, may overlap each other.
 extern "C" {
     /// Reads the `n` bytes of a file, of form 3, of form 2 or of the old form; changes no lent memory.
-    #[link_name = "giqapsun_read_3"]
+    #[link_name = "giqapsun_read_4"]
     pub fn giqapsun_read(file: *const u8, n: usize) -> Reading;
 
     /// Writes a file of form 3 into `n` lent bytes; changes the first `length` of them, on a refusal none.
-    #[link_name = "giqapsun_write_3"]
+    #[link_name = "giqapsun_write_4"]
     pub fn giqapsun_write(c: Case, bytes: *mut u8, n: usize) -> Written;
 
     /// Checks a list of `n` outputs; changes no lent memory.
-    #[link_name = "giqapsun_check_3"]
+    #[link_name = "giqapsun_check_4"]
     pub fn giqapsun_check(c: Case, list: *const u16, n: usize) -> Verdict;
 
-    /// Finds the best list with `n` numbers to work in, at least [`WORK`], and `m` outputs, at least T.
-    /// Fills the first T outputs on number 0; zeroes the first [`WORK`] numbers on 0 and 11.
-    #[link_name = "giqapsun_best_3"]
+    /// Finds the best list with `n` numbers to work in, at least those of [`giqapsun_work`], and `m` outputs,
+    /// at least T. Fills the first T outputs on number 0; zeroes the first numbers, those of [`giqapsun_work`],
+    /// on 0 and 11.
+    #[link_name = "giqapsun_best_4"]
     pub fn giqapsun_best(c: Case, work: *mut i64, n: usize, outputs: *mut u16, m: usize) -> Plan;
 
     /// Tells the better of a list of `n` outputs and one of `m`; changes no lent memory.
-    #[link_name = "giqapsun_better_3"]
+    #[link_name = "giqapsun_better_4"]
     pub fn giqapsun_better(c: Case, first: *const u16, n: usize, second: *const u16, m: usize) -> Choice;
 
     /// Finds the best list with the hour orders of a calendar: `a` numbers of on-line windows and `b` of
     /// off-line ones, two for each, and the day's first hour and number of hours. `work` and `outputs` are as
     /// for [`giqapsun_best`]; the windows are only read.
-    #[link_name = "giqapsun_best_by_calendar_3"]
+    #[link_name = "giqapsun_best_by_calendar_4"]
     pub fn giqapsun_best_by_calendar(
         c: Case,
         on: *const u16,
@@ -217,4 +224,9 @@ extern "C" {
         outputs: *mut u16,
         m: usize,
     ) -> Plan;
+
+    /// How many numbers a search of a case is lent to work in, [`WORK`] or [`WORK_MOST`], by its two minimum
+    /// times alone; changes no memory.
+    #[link_name = "giqapsun_work_4"]
+    pub fn giqapsun_work(c: Case) -> usize;
 }

@@ -1,7 +1,8 @@
 //! The day of one thermal power unit: case files are read and written, a list of hourly outputs is checked
 //! against the rules of the day, the list that earns most is found, by the case's own hour orders or by those
-//! of a calendar, and the better of two lists is told. The library behind it is proved; this crate lends it
-//! memory and turns its answers into Rust's. What a list leaves for the next day, [`Case::opening_after`] says.
+//! of a calendar, and the better of two lists is told. A day is the hours of one case, up to the 168 of a week. The
+//! library behind it is proved; this crate lends it memory and turns its answers into Rust's. What a list leaves
+//! for the next day, [`Case::opening_after`] says.
 //!
 //! Outputs are whole megawatts, prices and costs mills (thousandths of a dollar), profits half-mills (2,000
 //! to the dollar, exact). A price may be below 0. Hours are counted from 1; hour 0 is the one before the day. A
@@ -63,7 +64,7 @@ mod refusal;
 mod rule;
 
 pub use boundary::{Case, DAY_LEAST, DAY_MOST, FILE_MOST, FREE, HOURS, OFF, ON, PRICE_LEAST, PRICE_MOST};
-pub use boundary::{STAGES, WORK, YEAR_HOURS};
+pub use boundary::{SHORT_TIME, STAGES, WORK, WORK_MOST, YEAR_HOURS};
 pub use opening::Opening;
 pub use refusal::Refusal;
 pub use rule::{rule_text, RULES};
@@ -276,12 +277,31 @@ pub fn better<'a>(case: &Case, first: &'a [u16], second: &'a [u16]) -> &'a [u16]
     }
 }
 
-/// The plan of a search, which is lent numbers to work in and room for the outputs.
+/// How many numbers a search of this case is lent to work in: [`WORK`] where both minimum times are at most
+/// [`SHORT_TIME`], [`WORK_MOST`] otherwise, whatever else the record holds. [`best`] and [`best_by_calendar`]
+/// lend as many; a caller of [`boundary::giqapsun_best`] lends them himself.
+///
+/// ```
+/// use giqapsun::{read, working_numbers, WORK, WORK_MOST};
+///
+/// let mut case = read(include_bytes!("../../../cases/case7.case"))?;
+/// (case.minup, case.mindown) = (8, 8);
+/// assert_eq!(working_numbers(&case), WORK);
+/// case.minup = 20;
+/// assert_eq!(working_numbers(&case), WORK_MOST);
+/// # Ok::<(), giqapsun::Refusal>(())
+/// ```
+pub fn working_numbers(case: &Case) -> usize {
+    // SAFETY: the call takes a record by value and no pointer.
+    unsafe { boundary::giqapsun_work(*case) }
+}
+
+/// The plan of a search, which is lent as many numbers to work in as its case needs, and room for the outputs.
 fn planned(
     case: &Case,
     search: impl FnOnce(&mut [i64], &mut [u16]) -> boundary::Plan,
 ) -> Result<Plan, Refusal> {
-    let mut work = vec![0; WORK];
+    let mut work = vec![0; working_numbers(case)];
     let mut outputs = vec![0; HOURS];
     let plan = search(&mut work, &mut outputs);
     outputs.truncate(case.hours);

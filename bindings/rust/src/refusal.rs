@@ -101,7 +101,7 @@ impl Refusal {
                  by calendar, T not the day's number of hours"
             }
             Refusal::Capacity => "minimum output 0 or above capacity, or capacity above 400",
-            Refusal::RampsAndTimes => "RU or RD outside 1 to 400, or a minimum time outside 1 to 8",
+            Refusal::RampsAndTimes => "RU or RD outside 1 to 400, or a minimum time outside 1 to 24",
             Refusal::Costs => "F not from 0 to 1,000,000, or A, B or C not from 0 to 100,000,000",
             Refusal::Trajectories => {
                 "PU not strictly rising from 1 or more to the minimum output, \
@@ -116,8 +116,8 @@ impl Refusal {
             Refusal::Orders => "an order byte above 2",
             Refusal::ListLength => "checked list not of T outputs",
             Refusal::Memory => {
-                "lent memory short: 8,192 signed 64-bit numbers to work in, T outputs, \
-                 or the written file's bytes"
+                "lent memory short: 8,192 signed 64-bit numbers to work in, 32,768 where a minimum time is above 8, \
+                 T outputs, or the written file's bytes"
             }
             Refusal::NoSchedule => "best list asked for, and no list keeps every rule",
             Refusal::Form => "form number neither 2 nor 3",

@@ -127,7 +127,7 @@ fn lists_that_are_no_windows() {
 
 #[test]
 fn days_of_another_length() {
-    for hours in [0, 1, DAY_LEAST - 1, DAY_MOST + 1, 48, u16::MAX] {
+    for hours in [0, 1, DAY_LEAST - 1, DAY_MOST + 1, 48, 168, u16::MAX] {
         for case in [day(24), Case::default()] {
             assert_eq!(best_by_calendar(&case, &[], &[], 2400, hours), Err(Refusal::Calendar), "{hours}");
         }
@@ -157,7 +157,7 @@ fn order_of_the_tests() {
     refused(&case, &window, &[], Refusal::Orders);
     case.minimum = 0;
     refused(&case, &window, &[], Refusal::Capacity);
-    for hours in [0, 3, 23, 25, 48, 49] {
+    for hours in [0, 3, 23, 25, 48, 168, 169] {
         case.hours = hours;
         refused(&case, &window, &[], Refusal::Counts);
     }

@@ -27,6 +27,8 @@ fn refused_cases() -> Vec<(u32, Case)> {
         (2, Case::default()),
         (3, changed(|case| case.minimum = 5)),
         (4, changed(|case| case.rampup = 0)),
+        (4, changed(|case| case.minup = 25)),
+        (4, changed(|case| case.mindown = 0)),
         (5, changed(|case| case.variable = 1_000_001)),
         (5, changed(|case| case.variable = -1)),
         (5, changed(|case| case.fixed = i32::MIN)),

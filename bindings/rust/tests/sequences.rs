@@ -168,7 +168,7 @@ fn opening_after_a_list() {
     }
     assert_eq!(day((1, 1, 1, 0), &[5]).opening_after(&[2]), opening((2, 2, 2, 0)));
     let long = Case { elapsed: 9_999, ..unit() };
-    assert_eq!(long.opening_after(&[4; 48]), opening((4, 10_000, 0, 0)));
+    assert_eq!(long.opening_after(&[4; 168]), opening((4, 10_000, 0, 0)));
     // whatever a record holds
     let wild = Case { elapsed: u16::MAX, falls: usize::MAX, rises: 0, ..unit() };
     assert_eq!(wild.opening_after(&[4]).initial, 4);
