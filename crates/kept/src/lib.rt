@@ -22,7 +22,6 @@ ghost use Rattle.machine.specs.Proper.{Proper};
 ghost use Rattle.machine.specs.Lengths.{mostPlaces, keptLength};
 ghost use Rattle.cells.specs.Table.{Entries, Day, lockOf};
 ghost use Rattle.slots.specs.Saved.{Slotted, Saved};
-ghost use Rattle.locks.specs.Locked.{Locked};
 ghost use Rattle.kept.specs.Held.{Spanned, Holds, Free, Ready};
 
 // The layers from hour k on to before hour b, of as many hours as there are places; the hour before which they end.

@@ -2,7 +2,7 @@
 use borrow.Author.Needs.{needs}
 use native.Mathlib.Omega.{arith}
 use mathlib.Core.Path.{_≡_, sym, ap, _∙_}
-use Prim.Native.Nat.{_*_, _≤_, _<_, min}
+use Prim.Native.Nat.{_*_, _≤_}
 use Rattle.slots.specs.Saved.{slotFrom}
 use Rattle.slots.proofs.Slots.{slot-from}
 use Rattle.kept.proofs.keep_layers.Statement.{statement}

@@ -1,8 +1,6 @@
 -- `kept::keep_rows` meets its contract, by the outcomes of its tests. Assumes nothing.
 use borrow.Author.Needs.{needs}
 use native.Mathlib.Omega.{arith}
-use mathlib.Core.Path.{sym, subst}
-use Rattle.kept.specs.Held.{Holds}
 use Rattle.kept.proofs.keep_rows.Statement.{statement}
 use Rattle.kept.proofs.keep_rows.Tie as tie
 

@@ -3,7 +3,7 @@
 use borrow.Author.Needs.{needs}
 use native.Mathlib.Omega.{arith}
 use mathlib.Core.Path.{_≡_, refl, sym}
-use Prim.Native.Nat.{ℕ, suc, _+_, _-_, _≤_, _<_, min}
+use Prim.Native.Nat.{ℕ, suc, _+_, _-_, _≤_, min}
 use Rattle.machine.specs.Moves.{dayOf, worth}
 use Rattle.machine.specs.declared.Terms.{Terms}
 use Rattle.machine.specs.Lengths.{rowLength, mostPlaces}

@@ -1,12 +1,11 @@
 -- `lookup::from_after` meets its contract, by where it looks. Assumes nothing.
 use borrow.Author.Needs.{needs}
 use native.Mathlib.Omega.{arith}
-use mathlib.Core.Path.{_≡_, sym, ap, _∙_, subst}
+use mathlib.Core.Path.{_≡_, sym, ap, _∙_}
 use Prim.Native.Nat.{ℕ, _+_, _-_, _*_, _≤_, _<_}
 use lib.ListN.{length}
 use Rattle.machine.specs.Lengths.{placeLength}
 use Rattle.machine.specs.declared.Terms.{Terms}
-use Rattle.machine.specs.Fit.{Fair}
 use Rattle.machine.specs.Moves.{worth}
 use Rattle.cells.specs.Table.{entry, lockOf}
 use Rattle.rows.proofs.Ends.{sized-at}
