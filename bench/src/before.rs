@@ -1,10 +1,10 @@
 //! Two libraries, one beside the other: the search of every day, the check of its list, and the reading of every file.
 
 use crate::library::{Library, BEFORE, NOW};
-use crate::table::{heads, line, Rounds, SEARCH, SHORT};
+use crate::table::{heads, line, Rounds, SHORT};
 use crate::{days, files};
 use giqapsun::boundary::Plan;
-use giqapsun::{Case, HOURS, WORK};
+use giqapsun::{Case, HOURS, WORK_MOST};
 use std::hint::black_box;
 
 /// The best list of a day, with zeros past its hours.
@@ -26,12 +26,12 @@ fn print<A: PartialEq>(name: &str, timed: &Rounds, call: impl FnMut(&Library) ->
 
 /// Prints the tables.
 pub fn tables() {
-    let mut work = vec![0i64; WORK];
+    let mut work = vec![0i64; WORK_MOST];
     both("search");
     for (name, case) in days::all() {
-        print(name, &SEARCH, |library| best(library, black_box(&case), &mut work));
+        print(name, &Rounds::of(&case), |library| best(library, black_box(&case), &mut work));
     }
-    println!("{SEARCH} in turn");
+    println!("{}", Rounds::searches());
     both("check");
     for (name, case) in days::all() {
         let (_, outputs) = best(&NOW, &case, &mut work);

@@ -1,7 +1,7 @@
 //! The days that are timed.
 
 use giqapsun::boundary::{OFF, ON};
-use giqapsun::Case;
+use giqapsun::{Case, HOURS};
 
 /// Prices of the source's Table III, in mills.
 const SOURCE_PRICES: [i32; 24] = [
@@ -11,7 +11,7 @@ const SOURCE_PRICES: [i32; 24] = [
 
 /// The source's unit over so many hours, its prices repeated.
 pub fn source(hours: usize) -> Case {
-    let mut prices = [0; 48];
+    let mut prices = [0; HOURS];
     for (k, price) in prices.iter_mut().enumerate().take(hours) {
         *price = SOURCE_PRICES[k % 24];
     }
@@ -49,7 +49,7 @@ fn random(count: u64) -> impl Iterator<Item = i32> {
 
 /// Capacity 400, minimum 1, both ramps as given, trajectories of one entry, minimum times 8, random prices.
 fn wide(ramp: u16, hours: usize) -> Case {
-    let mut prices = [0; 48];
+    let mut prices = [0; HOURS];
     for (price, number) in prices.iter_mut().take(hours).zip(random(60_000)) {
         *price = number;
     }
@@ -71,18 +71,23 @@ fn wide(ramp: u16, hours: usize) -> Case {
         rise: [1, 0, 0, 0, 0, 0, 0, 0],
         fall: [1, 0, 0, 0, 0, 0, 0, 0],
         prices,
-        orders: [0; 48],
+        orders: [0; HOURS],
         rises: 1,
         falls: 1,
         hours,
     }
 }
 
+/// The same over a week, with minimum times as given.
+fn week(ramp: u16, time: u16) -> Case {
+    Case { minup: time, mindown: time, elapsed: time, ..wide(ramp, HOURS) }
+}
+
 /// 400 outputs, ramps 400, and prices that pay for the second and third hour of four: the plan goes up, to the
 /// capacity, down and off-line in each four hours, which the minimum times just allow.
 fn wave() -> Case {
     let mut case = wide(400, 48);
-    for (k, price) in case.prices.iter_mut().enumerate() {
+    for (k, price) in case.prices[..48].iter_mut().enumerate() {
         *price = if k % 4 == 1 || k % 4 == 2 { 50_000 } else { 0 };
     }
     Case { minup: 3, mindown: 1, startcost: 1_000, stopcost: 1_000, ..case }
@@ -92,7 +97,7 @@ fn wave() -> Case {
 /// is at a limit, the upper and the lower one in turn.
 fn below_zero() -> Case {
     let mut case = wide(100, 48);
-    for ((k, price), number) in case.prices.iter_mut().enumerate().zip(random(100_000)) {
+    for ((k, price), number) in case.prices[..48].iter_mut().enumerate().zip(random(100_000)) {
         *price = match k % 14 {
             6 => 10_000_000,
             13 => -10_000_000,
@@ -102,14 +107,15 @@ fn below_zero() -> Case {
     case
 }
 
-/// 400 outputs, ramps 400, on-line from the start, with orders that stop the unit as soon as it may stop and start it
-/// again in the next hour: the most row steps that a day can take.
-fn stops() -> Case {
-    let mut case = wide(400, 48);
-    for (k, order) in case.orders.iter_mut().enumerate() {
-        *order = if k % 9 == 7 || k >= 43 { OFF } else { ON };
+/// 400 outputs, ramps 400, minimum down time 1, on-line for `elapsed` hours at the minimum output. Orders
+/// keep the unit off-line in one hour of every so many, first in hour `first`, counted from 0, and on-line in
+/// all others.
+fn stops(hours: usize, minup: u16, elapsed: u16, every: usize, first: usize) -> Case {
+    let mut case = wide(400, hours);
+    for (k, order) in case.orders[..hours].iter_mut().enumerate() {
+        *order = if k % every == first { OFF } else { ON };
     }
-    Case { mindown: 1, initial: 1, elapsed: 1, ..case }
+    Case { minup, mindown: 1, initial: 1, elapsed, ..case }
 }
 
 /// 393 outputs above trajectories of eight entries each, ramps 100, random prices.
@@ -147,8 +153,15 @@ pub fn all() -> Vec<(&'static str, Case)> {
         ("(m) 400 outputs, ramps 100, 48 h", wide(100, 48)),
         ("(n) 400 outputs, prices below zero, 48 h", below_zero()),
         ("(g) 400 outputs, the most starts, 48 h", wave()),
-        ("(w) 400 outputs, the most row steps, 48 h", stops()),
+        ("(w) 400 outputs, the most row steps, 48 h", stops(48, 8, 6, 9, 2)),
         ("(s) 393 outputs, from a start-up, 48 h", in_start()),
         ("(t) 393 outputs, to a shut-down, 48 h", to_stop()),
+        ("(e) the source's week, 168 h", source(168)),
+        ("(p) ramps 400, minimum times 24, 168 h", week(400, 24)),
+        ("(q) ramps 20, minimum times 24, 168 h", week(20, 24)),
+        ("(u) ramps 400, minimum times 8, 168 h", week(400, 8)),
+        ("(v) ramps 20, minimum times 8, 168 h", week(20, 8)),
+        ("(x) the most row steps, 168 h", stops(168, 24, 20, 27, 6)),
+        ("(y) near the most in 8,192 numbers, 168 h", stops(168, 8, 6, 10, 2)),
     ]
 }

@@ -4,7 +4,7 @@ use crate::files;
 use giqapsun::{Case, PRICE_LEAST, PRICE_MOST};
 
 /// Limits of the numbers of a file.
-const LIMITS: [i32; 10] = [0, 2, 8, 400, 10_000, 65_535, 1_000_000, 100_000_000, PRICE_LEAST, PRICE_MOST];
+const LIMITS: [i32; 11] = [0, 2, 8, 24, 400, 10_000, 65_535, 1_000_000, 100_000_000, PRICE_LEAST, PRICE_MOST];
 
 /// Pseudo-random numbers.
 pub struct Dice(u64);
@@ -51,7 +51,9 @@ impl Dice {
         let minimum = self.roll(1, capacity);
         let (rises, falls) = (self.roll(1, minimum.min(8)) as usize, self.roll(1, minimum.min(8)) as usize);
         let on = self.roll(0, 1) == 1;
-        let hours = self.roll(1, 48) as usize;
+        let longest = [48, 48, 48, 168][self.roll(0, 3) as usize];
+        let hours = self.roll(1, longest) as usize;
+        let times = [8, 24][self.roll(0, 1) as usize];
         let spread = [3, 60, 60_000][self.roll(0, 2) as usize];
         let ramp = [3, 30, 400][self.roll(0, 2) as usize];
         let mut case = Case {
@@ -59,14 +61,14 @@ impl Dice {
             minimum,
             rampup: self.roll(1, ramp),
             rampdown: self.roll(1, ramp),
-            minup: self.roll(1, 8),
-            mindown: self.roll(1, 8),
+            minup: self.roll(1, times),
+            mindown: self.roll(1, times),
             variable: i32::from(spread / 2),
             fixed: i32::from(self.roll(0, spread)),
             startcost: i32::from(self.roll(0, spread)),
             stopcost: i32::from(self.roll(0, spread)),
             initial: if on { self.roll(minimum, capacity) } else { 0 },
-            elapsed: if on { self.roll(rises as u16, 12) } else { self.roll(1, 12) },
+            elapsed: self.roll(if on { rises as u16 } else { 1 }, times + 4),
             rise: self.rise(rises, minimum),
             rises,
             falls,
@@ -78,7 +80,7 @@ impl Dice {
             case.fall[i] = fall[falls - 1 - i];
         }
         if self.roll(0, 2) == 0 {
-            self.open_inside(&mut case);
+            self.open_inside(&mut case, times + 8);
         }
         let orders = [1, 3, 30, 300][self.roll(0, 3) as usize];
         let below = self.roll(0, 1) == 1;
@@ -90,8 +92,9 @@ impl Dice {
         case
     }
 
-    /// Opens a day inside a start-up or inside a shut-down, if it has entries for it.
-    fn open_inside(&mut self, case: &mut Case) {
+    /// Opens a day inside a start-up or inside a shut-down, if it has entries for it, after at most so many
+    /// hours.
+    fn open_inside(&mut self, case: &mut Case, most: u16) {
         if self.roll(0, 1) == 0 && case.rises > 1 {
             let stage = self.roll(1, case.rises as u16 - 1);
             (case.upstage, case.elapsed) = (stage as u8, stage);
@@ -100,7 +103,7 @@ impl Dice {
             let stage = self.roll(2, case.falls as u16);
             case.downstage = stage as u8;
             case.initial = case.fall[usize::from(stage) - 1];
-            case.elapsed = self.roll(case.rises as u16 + stage - 1, 16);
+            case.elapsed = self.roll(case.rises as u16 + stage - 1, most);
         }
     }
 
@@ -122,7 +125,7 @@ impl Dice {
         let i = usize::from(self.roll(0, sections.len() as u16 - 1));
         match self.roll(0, 9) {
             0 => sections.insert(i + 1, Vec::new()),
-            1 => sections[i].resize(usize::from(self.roll(0, 300)), 0),
+            1 => sections[i].resize(usize::from(self.roll(0, 900)), 0),
             _ => self.touch(&mut sections[i]),
         }
     }

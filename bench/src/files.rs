@@ -69,7 +69,7 @@ fn cut(sections: &[Vec<u8>]) -> Vec<u8> {
 /// Every file with its name. The long hours are as long as a 16-bit length of the last section, or a 16-bit offset of
 /// the section after them, allows.
 pub fn all() -> Vec<(&'static str, Vec<u8>)> {
-    let (day, twice) = (days::source(24), days::source(48));
+    let (day, twice, week) = (days::source(24), days::source(48), days::source(168));
     vec![
         ("the source's day, form 3, 24 h", joined(&three(&day))),
         ("the source's day, form 2, 24 h", joined(&two(&day))),
@@ -77,6 +77,9 @@ pub fn all() -> Vec<(&'static str, Vec<u8>)> {
         ("the source's day twice, form 3, 48 h", joined(&three(&twice))),
         ("the source's day twice, form 2, 48 h", joined(&two(&twice))),
         ("the source's day twice, old form, 48 h", joined(&old(&twice))),
+        ("the source's week, form 3, 168 h", joined(&three(&week))),
+        ("the source's week, form 2, 168 h", joined(&two(&week))),
+        ("the source's week, old form, 168 h", joined(&old(&week))),
         ("hours of 65,469 bytes, form 3", long(three(&day), 65_469)),
         ("hours of 65,535 bytes, old form", long(old(&day), 65_535)),
         ("cut by one byte, form 3, 24 h", cut(&three(&day))),

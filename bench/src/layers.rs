@@ -4,8 +4,7 @@
 
 use crate::unit::{State, Unit, ENDS, NONE, OUTPUTS, SIDE, TIME};
 use crate::window::{Line, Window};
-use giqapsun::boundary::STAGES;
-use giqapsun::{Case, WORK};
+use giqapsun::{Case, STAGES};
 
 /// Where the start-up and the shut-down stand in a side.
 const RISE: usize = TIME + 1;
@@ -36,18 +35,17 @@ pub struct Layers<'a, W> {
 
 impl Layer {
     /// The end of the day: it may end inside a start-up and inside a shut-down.
-    fn end() -> Layer {
+    pub fn end() -> Layer {
         Layer { row: [0; OUTPUTS], side: [0; SIDE] }
     }
 }
 
 impl<'a, W: Window> Layers<'a, W> {
-    /// The layers of an accepted case in the working numbers, of which the first are used.
+    /// The layers of an accepted case in as many working numbers as it asks for.
     pub fn of(case: &'a Case, work: &'a mut [i64]) -> Layers<'a, W> {
         let unit = Unit::of(case);
-        let stride = case.hours.div_ceil(WORK / (unit.cells + SIDE));
-        let mut layers =
-            Layers { unit, entries: [0; ENDS], stride, work: &mut work[..WORK], window: W::new() };
+        let stride = case.hours.div_ceil(work.len() / (unit.cells + SIDE));
+        let mut layers = Layers { unit, entries: [0; ENDS], stride, work, window: W::new() };
         layers.back();
         layers
     }
@@ -111,7 +109,7 @@ impl<'a, W: Window> Layers<'a, W> {
     }
 
     /// The layer of hour k in place of the layer of the hour after it.
-    fn step(&mut self, k: usize, layer: &mut Layer) {
+    pub fn step(&mut self, k: usize, layer: &mut Layer) {
         let stop = self.falling(k, 0, layer).0;
         let mut side = layer.side;
         for (d, worth) in side.iter_mut().enumerate().take(self.unit.rest + 1).skip(1) {
@@ -178,12 +176,17 @@ impl<'a, W: Window> Layers<'a, W> {
         }
     }
 
+    /// The first hour from hour k on whose layer is kept, or the end of the day.
+    pub fn base(&self, k: usize) -> usize {
+        k.next_multiple_of(self.stride).min(self.unit.case.hours)
+    }
+
     /// The layer of hour k, made again from the next one that is kept.
     pub fn layer(&mut self, k: usize) -> Layer {
-        let (hours, cells) = (self.unit.case.hours, self.unit.cells);
+        let cells = self.unit.cells;
         let mut layer = Layer::end();
-        let base = k.next_multiple_of(self.stride).min(hours);
-        if base < hours {
+        let base = self.base(k);
+        if base < self.unit.case.hours {
             let slot = &self.work[base / self.stride * (cells + SIDE)..][..cells + SIDE];
             layer.row[..cells].copy_from_slice(&slot[..cells]);
             layer.side.copy_from_slice(&slot[cells..]);

@@ -45,13 +45,13 @@ mod before {
     use giqapsun::Case;
 
     extern "C" {
-        #[link_name = "before_giqapsun_read_3"]
+        #[link_name = "before_giqapsun_read_4"]
         pub fn read(file: *const u8, n: usize) -> Reading;
 
-        #[link_name = "before_giqapsun_check_3"]
+        #[link_name = "before_giqapsun_check_4"]
         pub fn check(c: Case, list: *const u16, n: usize) -> Verdict;
 
-        #[link_name = "before_giqapsun_best_3"]
+        #[link_name = "before_giqapsun_best_4"]
         pub fn best(c: Case, work: *mut i64, n: usize, outputs: *mut u16, m: usize) -> Plan;
     }
 }

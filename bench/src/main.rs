@@ -25,12 +25,13 @@ mod window;
 
 use blocks::Blocks;
 use giqapsun::boundary::Reading;
-use giqapsun::{Case, WORK};
+use giqapsun::{working_numbers, Case, HOURS, SHORT_TIME};
 use library::NOW;
 use queue::Queue;
 use std::hint::black_box;
-use table::{heads, SEARCH, SHORT};
+use table::{heads, Rounds, SHORT};
 use times::Times;
+use unit::TIME;
 
 /// A programme that reads.
 type Reader = fn(&[u8]) -> Reading;
@@ -43,10 +44,10 @@ fn starts(case: &Case, list: &[u16]) -> usize {
 
 /// The times of a day and what they come to: in every round each programme finds the list of the proved search.
 fn lines(name: &str, case: &Case) -> [String; 2] {
-    let mut work = vec![0i64; WORK];
+    let mut work = vec![0i64; working_numbers(case)];
     let (mut outputs, mut list) = (vec![0u16; case.hours], vec![0u16; case.hours]);
     let [mut proved, mut memory, mut tuned, mut plain, mut checks] = [(); 5].map(|()| Times::default());
-    for _ in 0..SEARCH.rounds {
+    for _ in 0..Rounds::of(case).rounds {
         let plan = proved.take(1, || NOW.best(black_box(case), &mut work, &mut outputs));
         assert!(plan.number == 0, "{name}: {plan:?}");
         let profit = memory.take(1, || memory::best::<Queue>(black_box(case), &mut work, &mut list));
@@ -77,11 +78,13 @@ fn searches() {
         println!("{times}");
         ratios.push(line);
     }
-    println!("{SEARCH} in turn\n");
+    println!("{}\n", Rounds::searches());
     heads("day", &["proved/memory", "proved/tuned", "proved/plain", "check"], " row steps starts");
     println!("{}", ratios.join("\n"));
     println!("check: {SHORT}\n");
-    println!("the most row steps of any day within the limits: {}\n", steps::most());
+    println!("the most row steps of any day within the limits: {}", steps::most(HOURS, TIME));
+    let [week, two] = [HOURS, 48].map(|hours| steps::most(hours, SHORT_TIME.into()));
+    println!("with minimum times up to {SHORT_TIME}: {week}; with these and up to 48 h: {two}\n");
 }
 
 /// Prints the table of reading.

@@ -1,19 +1,21 @@
 //! The same recurrence within the memory that the product is lent: the layers back from the end of the day, and then
 //! the plan forward, hour by hour. Whatever is held beside the working numbers has a fixed length.
 
-use crate::layers::Layers;
-use crate::unit::{State, LOCK, NONE, OUTPUTS};
+use crate::layers::{Layer, Layers};
+use crate::unit::{State, NONE, PLACES};
 use crate::window::Window;
 use giqapsun::Case;
 
-/// The layers, and the rows of the lock that the plan is in.
+/// The layers, and what is looked at in the hours ahead.
 struct Search<'a, W> {
     /// The layers of the day.
     layers: Layers<'a, W>,
-    /// The rows of the lock, from its end back.
-    locked: [[i64; OUTPUTS]; LOCK],
-    /// The hour of that end.
+    /// Rows of the lock that the plan is in, or layers up to the next in the working numbers; the last first.
+    ahead: [Layer; PLACES],
+    /// The end of that lock; 0 where they are layers.
     until: usize,
+    /// The hour before which they end.
+    to: usize,
 }
 
 impl<W: Window> Search<'_, W> {
@@ -37,39 +39,64 @@ impl<W: Window> Search<'_, W> {
         (best, unit.low + at)
     }
 
-    /// On-line in a lock that ends later than the next hour: its rows are made once.
-    fn locked(&mut self, k: usize, i: usize, end: usize) -> (i64, usize) {
-        let cells = self.layers.unit.cells;
-        if self.until != end {
-            let mut row = self.layers.layer(end).row;
-            for h in (k + 1..end).rev() {
-                self.layers.hold(h, &mut row[..cells]);
-                self.locked[end - h - 1][..cells].copy_from_slice(&row[..cells]);
-            }
-            self.until = end;
+    /// The rows of a lock that ends later than hour k, from hour k on, unless they are there.
+    fn keep_rows(&mut self, k: usize, end: usize) {
+        if self.until == end && k < self.to {
+            return;
         }
-        self.across(k, i, &self.locked[end - k - 2])
+        (self.until, self.to) = (end, end.min(k + PLACES));
+        let cells = self.layers.unit.cells;
+        let mut row = self.layers.layer(end).row;
+        for h in (k..end).rev() {
+            self.layers.hold(h, &mut row[..cells]);
+            if h < self.to {
+                self.ahead[self.to - h - 1].row[..cells].copy_from_slice(&row[..cells]);
+            }
+        }
+    }
+
+    /// The layers from hour k on, which the working numbers do not hold, unless they are there.
+    fn keep_layers(&mut self, k: usize, base: usize) {
+        if self.until == 0 && k < self.to {
+            return;
+        }
+        (self.until, self.to) = (0, base.min(k + PLACES));
+        let mut layer = self.layers.layer(self.to);
+        for h in (k..self.to).rev() {
+            self.layers.step(h, &mut layer);
+            self.ahead[self.to - h - 1] = layer;
+        }
     }
 
     /// Worth and output of hour k in a state.
     fn choice(&mut self, k: usize, state: State) -> (i64, usize) {
+        let after = k + 1;
         if let State::Run(i, j) = state {
             let end = (k + j).min(self.layers.unit.case.hours);
-            if end > k + 1 {
-                return self.locked(k, i, end);
+            if end > after {
+                self.keep_rows(after, end);
+                return self.across(k, i, &self.ahead[self.to - after - 1].row);
             }
         }
-        let layer = self.layers.layer(k + 1);
+        let slot;
+        let base = self.layers.base(after);
+        let layer = if base == after {
+            slot = self.layers.layer(after);
+            &slot
+        } else {
+            self.keep_layers(after, base);
+            &self.ahead[self.to - after - 1]
+        };
         match state {
-            State::Off(d) => self.layers.idle(k, d, &layer),
-            State::Rise(i) => self.layers.rising(k, i, &layer),
-            State::Fall(i) => self.layers.falling(k, i, &layer),
+            State::Off(d) => self.layers.idle(k, d, layer),
+            State::Rise(i) => self.layers.rising(k, i, layer),
+            State::Fall(i) => self.layers.falling(k, i, layer),
             State::Run(i, j) => {
                 let on = self.across(k, i, &layer.row);
                 if i > 0 || j > 0 {
                     return on;
                 }
-                let stop = self.layers.falling(k, 0, &layer);
+                let stop = self.layers.falling(k, 0, layer);
                 if stop.0 < on.0 {
                     on
                 } else {
@@ -99,5 +126,5 @@ impl<W: Window> Search<'_, W> {
 /// The working numbers hold anything after.
 pub fn best<W: Window>(case: &Case, work: &mut [i64], outputs: &mut [u16]) -> Option<i64> {
     let layers = Layers::<W>::of(case, work);
-    Search { layers, locked: [[0; OUTPUTS]; LOCK], until: 0 }.plan(outputs)
+    Search { layers, ahead: [Layer::end(); PLACES], until: 0, to: 0 }.plan(outputs)
 }

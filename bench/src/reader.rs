@@ -110,7 +110,7 @@ fn limits(case: &Case) -> Test {
     let (minimum, capacity) = (case.minimum, case.capacity);
     keep(3, (1..=capacity).contains(&minimum) && capacity <= 400)?;
     keep(4, [case.rampup, case.rampdown].iter().all(|ramp| (1..=400).contains(ramp)))?;
-    keep(4, [case.minup, case.mindown].iter().all(|time| (1..=8).contains(time)))?;
+    keep(4, [case.minup, case.mindown].iter().all(|time| (1..=24).contains(time)))?;
     keep(5, (0..=1_000_000).contains(&case.variable))?;
     let costs = [case.fixed, case.startcost, case.stopcost];
     keep(5, costs.iter().all(|cost| (0..=100_000_000).contains(cost)))?;

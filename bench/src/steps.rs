@@ -1,25 +1,36 @@
-//! The row steps of a search, counted by the loops of crates `search` and `layers`; and the most that any day within
-//! the limits can take, over every width, lock and length and every walk through starts and stops.
+//! The row steps of a search, counted by the loops of crates `search`, `layers`, `kept`, `locks` and `slots`;
+//! and the most that any day within the limits can take, over every width, lock and length and every walk
+//! through starts and stops.
 
-use crate::unit::{locks, Unit, OUTPUTS, SIDE, TIME};
-use giqapsun::boundary::{HOURS, STAGES};
-use giqapsun::{Case, WORK};
+use crate::unit::{locks, Unit, OUTPUTS, PLACES, SIDE};
+use giqapsun::{working_numbers, Case, HOURS, SHORT_TIME, WORK, WORK_MOST};
+
+/// The fewest hours from the end of a lock to the beginning of the next: a stop and a start.
+const GAP: usize = 2;
 
 /// What the loops look at.
-#[derive(Clone, Copy)]
 struct Loops {
     /// The hours of the day.
     hours: usize,
-    /// From one kept layer to the next.
+    /// From one layer that has a slot to the next.
     stride: usize,
     /// The hours to go before a stop may begin, just after a start.
     lock: usize,
 }
 
+/// What is kept of the hours ahead.
+#[derive(Default)]
+struct Held {
+    /// The end of the lock whose rows they are; 0 where they are layers.
+    end: usize,
+    /// The hour before which they end.
+    to: usize,
+}
+
 impl Loops {
-    /// Those of a day of so many hours and outputs.
-    fn of(hours: usize, cells: usize, lock: usize) -> Loops {
-        Loops { hours, stride: hours.div_ceil(WORK / (cells + SIDE)), lock }
+    /// Those of a day of so many hours and outputs, in so many working numbers.
+    fn of(hours: usize, cells: usize, lock: usize, room: usize) -> Loops {
+        Loops { hours, stride: hours.div_ceil((room / (cells + SIDE)).min(hours)), lock }
     }
 
     /// Back from the end of the day, with the worth of a start in each hour.
@@ -27,76 +38,90 @@ impl Loops {
         self.hours + self.lock.min(self.hours) + self.hours.saturating_sub(self.lock) * self.lock
     }
 
-    /// From the next layer that is kept, or the end of the day, down to the layer of an hour.
-    fn again(&self, hour: usize) -> usize {
-        hour.next_multiple_of(self.stride).min(self.hours) - hour
+    /// The first hour from this one on whose layer has a slot, or the end of the day.
+    fn base(&self, hour: usize) -> usize {
+        hour.next_multiple_of(self.stride).min(self.hours)
     }
 
-    /// The choice of hour k with so many hours to go: the rows of a lock are made once, from the layer of the hour at
-    /// which it ends; outside a lock the layer after the hour is read from its slot, or made again. `until` is the end
-    /// of the lock whose rows are there.
-    fn choice(&self, k: usize, lock: usize, until: &mut usize) -> usize {
+    /// The choice of hour k with so many hours to go. Inside a lock it looks at a row of the lock, outside at
+    /// the layer after the hour, which may have a slot. Where it is not there, those of as many hours as have
+    /// places are made, down from the next layer that has a slot, in place of what is kept.
+    fn choice(&self, k: usize, lock: usize, held: &mut Held) -> usize {
         let after = k + 1;
-        let end = (after + lock.saturating_sub(1)).min(self.hours);
-        if after == end {
-            return self.again(after);
-        }
-        if end == *until {
+        let end = (k + lock.max(1)).min(self.hours);
+        let base = self.base(end);
+        let (kind, last) = if after < end { (end, end) } else { (0, base) };
+        if last == after || held.end == kind && after < held.to {
             return 0;
         }
-        *until = end;
-        self.again(end) + end - after
+        *held = Held { end: kind, to: last.min(after + PLACES) };
+        base - after
     }
 
-    /// The hours of a lock that begins at hour k.
-    fn locked(&self, k: usize, lock: usize) -> usize {
-        let mut until = 0;
-        let end = (k + lock).min(self.hours);
-        (k..end).map(|h| self.choice(h, k + lock - h, &mut until)).sum()
+    /// A lock of so many hours from hour k on, or hour k outside a lock where they are 0: row steps, the hour
+    /// after it, and whether layers are there then, as they may be before. There are places for all that lie
+    /// between two slots, so those that are there go up to the next slot, or the end of the day.
+    fn pass(&self, k: usize, lock: usize, there: bool) -> (usize, usize, bool) {
+        assert!(self.stride <= PLACES + 1, "more layers between two slots than places");
+        let end = (k + lock.max(1)).min(self.hours);
+        let mut held = Held { end: 0, to: if there { self.base(k + 1) } else { 0 } };
+        let steps = (k..end).map(|h| self.choice(h, k + lock - h, &mut held)).sum();
+        (steps, end, held.end == 0 && end + 1 < held.to)
     }
 
-    /// The most of a walk that opens with at least an hour before its first lock, the last of a start, or in a lock;
-    /// from the end of a lock to the beginning of the next pass at least `gap` hours.
-    fn walk(&self, gap: usize) -> usize {
-        // the most from each hour on, outside a lock, with so many hours to wait before the next may begin
-        let mut most = [[0; HOURS + 1]; 2 * STAGES + 1];
-        let from_lock = |most: &[[usize; HOURS + 1]], k: usize, lock: usize| {
-            self.locked(k, lock) + most[gap][(k + lock).min(self.hours)]
+    /// The most of a walk that opens with at least an hour before its first lock, the last of a start, or in
+    /// a lock.
+    fn walk(&self) -> usize {
+        // the most from each hour on, outside a lock, with so many hours to wait before the next may begin,
+        // where layers are not there and where they are
+        let mut most = [[[0; 2]; GAP + 1]; HOURS + 1];
+        let from = |most: &[[[usize; 2]; GAP + 1]], k: usize, lock: usize, there: bool, wait: usize| {
+            let (steps, end, there) = self.pass(k, lock, there);
+            steps + most[end][wait][usize::from(there)]
         };
         for k in (0..self.hours).rev() {
-            for wait in 0..=gap {
-                most[wait][k] = self.again(k + 1) + most[wait.saturating_sub(1)][k + 1];
+            for there in [false, true] {
+                for wait in 0..=GAP {
+                    most[k][wait][usize::from(there)] = from(&most, k, 0, there, wait.saturating_sub(1));
+                }
+                if self.lock > 0 {
+                    let locked = from(&most, k, self.lock, there, GAP);
+                    let free = &mut most[k][0][usize::from(there)];
+                    *free = locked.max(*free);
+                }
             }
-            most[0][k] = most[0][k].max(from_lock(&most, k, self.lock));
         }
-        (1..=self.lock).map(|lock| from_lock(&most, 0, lock)).fold(most[1][0], usize::max)
+        (1..=self.lock).map(|lock| from(&most, 0, lock, false, GAP)).fold(most[0][1][0], usize::max)
     }
 }
 
 /// The row steps of the search that finds this list.
 pub fn count(case: &Case, list: &[u16]) -> usize {
     let unit = Unit::of(case);
-    let loops = Loops::of(case.hours, unit.cells, unit.lock);
-    let mut until = 0;
+    let loops = Loops::of(case.hours, unit.cells, unit.lock, working_numbers(case));
+    let mut held = Held::default();
     let forward =
-        locks(&unit, list).into_iter().enumerate().map(|(k, lock)| loops.choice(k, lock, &mut until));
+        locks(&unit, list).into_iter().enumerate().map(|(k, lock)| loops.choice(k, lock, &mut held));
     loops.back() + forward.sum::<usize>()
 }
 
-/// The most row steps of any day within the limits. The minimum output is at least as high as the longer trajectory has
-/// entries; a minimum down time of 1 leaves the most walks.
-pub fn most() -> usize {
+/// The most row steps of any day of up to so many hours, with minimum times of up to so many. Only days with
+/// trajectories of one entry each and a minimum down time of 1 are gone through: others have locks that are
+/// no longer, rows that are no wider and more hours between two locks, so each of their walks is one of
+/// these. Where they have a lock of up to 7 hours in the more working numbers, a day in the fewer with
+/// narrower rows has slots as far apart: every distance from 1 to that of the widest row is that of some row.
+/// Orders for all hours make a day take any walk, so one takes the most.
+pub fn most(hours: usize, times: usize) -> usize {
     let mut most = 0;
-    for rises in 1..=STAGES {
-        for falls in 1..=STAGES {
-            let cells = OUTPUTS + 1 - rises.max(falls);
-            for minup in 1..=TIME {
-                let lock = (minup + 1).saturating_sub(rises + falls);
-                for hours in 1..=HOURS {
-                    for stride in 1..=Loops::of(hours, cells, lock).stride {
-                        let loops = Loops { hours, stride, lock };
-                        most = most.max(loops.back() + loops.walk(rises + falls));
-                    }
+    for minup in 1..=times {
+        let room = if minup <= usize::from(SHORT_TIME) { WORK } else { WORK_MOST };
+        for hours in 1..=hours {
+            let mut stride = 0;
+            for cells in 1..=OUTPUTS {
+                let loops = Loops::of(hours, cells, minup - 1, room);
+                if loops.stride > stride {
+                    stride = loops.stride;
+                    most = most.max(loops.back() + loops.walk());
                 }
             }
         }

@@ -1,6 +1,7 @@
 //! Tables of times: their heads, and the line of two programmes that answer the same.
 
 use crate::times::Times;
+use giqapsun::Case;
 use std::fmt;
 use std::hint::black_box;
 
@@ -15,10 +16,29 @@ pub struct Rounds {
 }
 
 /// The rounds of a search.
-pub const SEARCH: Rounds = Rounds { rounds: 2500, calls: 1, digits: 1 };
+const SEARCH: Rounds = Rounds { rounds: 2500, calls: 1, digits: 1 };
+
+/// Those of a search of more than 48 hours.
+const WEEK: Rounds = Rounds { rounds: 200, calls: 1, digits: 1 };
 
 /// Those of a check and of reading a file.
 pub const SHORT: Rounds = Rounds { rounds: 200, calls: 1000, digits: 3 };
+
+impl Rounds {
+    /// The rounds of the search of a case.
+    pub fn of(case: &Case) -> Rounds {
+        if case.hours > 48 {
+            WEEK
+        } else {
+            SEARCH
+        }
+    }
+
+    /// What stands below a table of searches.
+    pub fn searches() -> String {
+        format!("{SEARCH} in turn, {} of a week", WEEK.rounds)
+    }
+}
 
 impl fmt::Display for Rounds {
     /// What stands below a table.

@@ -8,10 +8,10 @@ use giqapsun::Case;
 pub const OUTPUTS: usize = 400;
 
 /// The longest minimum time.
-pub const TIME: usize = 8;
+pub const TIME: usize = 24;
 
-/// The most hours that a unit can have to go before a stop may begin: a start and a stop take an hour each.
-pub const LOCK: usize = TIME - 1;
+/// The hours whose rows are kept at once while the plan goes forward: half of those of the longest lock.
+pub const PLACES: usize = 11;
 
 /// No list keeps the rules from here.
 pub const NONE: i64 = i64::MIN / 4;
