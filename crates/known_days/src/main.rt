@@ -698,53 +698,30 @@ fn print_source(file: &[u8]) {
     print_best(b"source, 169 hours", codec::admit(case));
 }
 
-// The small unit on-line for so many hours, with these minimum times and prices that pay for none: it stops as soon as it
-// may.
-fn held(elapsed: Hour, minup: Hour, mindown: Hour, hours: Hour) -> Reading {
-    let reading = small(Output(2), elapsed, Hour(1), hours, Mills(0), [0u8; HOURS]);
+// The small unit after two hours on-line, with these minimum times and prices that pay for no hour: it stops as soon as
+// it may.
+fn held(minup: Hour, mindown: Hour, hours: Hour) -> Reading {
+    let reading = small(Output(2), Hour(2), Hour(1), hours, Mills(0), [0u8; HOURS]);
     let mut case = reading.case;
     case.minup = minup;
     case.mindown = mindown;
     codec::admit(case)
 }
 
-// The best list in as many numbers as a minimum time above 8 asks for, and in one fewer.
+// The best list in as many numbers as a minimum time above 8 asks for.
 fn print_long(name: &[u8], reading: Reading) {
     let mut work = [0i64; LONG_WORK];
     print_lent(name, reading, &mut work);
 }
 
-fn print_fewer(name: &[u8], reading: Reading) {
-    let mut work = [0i64; LONG_WORK - 1];
-    print_lent(name, reading, &mut work);
-}
-
-// Minimum times from 8 to 25.
+// Minimum times from 9 to 25.
 fn print_times() {
-    let up = held(Hour(2), Hour(9), Hour(1), Hour(9));
-    let down = held(Hour(2), Hour(1), Hour(9), Hour(3));
-    print_best(b"minimum times 8", held(Hour(2), Hour(8), Hour(8), Hour(9)));
-    print_best(b"minimum up time 9, 8192 numbers", up);
-    print_best(b"minimum down time 9, 8192 numbers", down);
-    print_fewer(b"minimum up time 9, 32767 numbers", up);
-    print_long(b"minimum up time 9", up);
-    print_long(b"minimum down time 9", down);
-    print_long(
-        b"minimum up time 20",
-        held(Hour(2), Hour(20), Hour(1), Hour(21)),
-    );
-    print_long(
-        b"minimum times 24",
-        held(Hour(2), Hour(24), Hour(24), Hour(26)),
-    );
-    print_long(
-        b"minimum up time 25",
-        held(Hour(2), Hour(25), Hour(1), Hour(26)),
-    );
-    print_long(
-        b"minimum down time 25",
-        held(Hour(2), Hour(1), Hour(25), Hour(26)),
-    );
+    let nine = held(Hour(9), Hour(1), Hour(9));
+    print_best(b"minimum up time 9, 8192 numbers", nine);
+    print_long(b"minimum up time 9", nine);
+    print_long(b"minimum up time 20", held(Hour(20), Hour(1), Hour(21)));
+    print_long(b"minimum times 24", held(Hour(24), Hour(24), Hour(26)));
+    print_long(b"minimum up time 25", held(Hour(25), Hour(1), Hour(26)));
 }
 
 // Lists of the source's day: the one that the source prints, and an output that is held.
