@@ -6,10 +6,10 @@ use Rattle.limits.proofs.work_of.Statement.{statement}
 use Rattle.limits.proofs.work_of.Tie as tie
 
 returns : tie.Need-returns
-returns c = sym (work-up (c .before .before .args .case) (c .if1 .taken))
+returns c = sym (work-up (c .before .before .args .case) (omega (arith, c .if1 .taken)))
 
 returns-2 : tie.Need-returns-2
-returns-2 c = sym (work-down (c .before .before .before .before .args .case) (c .if2 .taken))
+returns-2 c = sym (work-down (c .before .before .before .before .args .case) (omega (arith, c .if2 .taken)))
 
 returns-3 : tie.Need-returns-3
 returns-3 c =
