@@ -1,7 +1,7 @@
 // What is kept of the hours ahead while the plan goes forward: the rows of the lock that it is in, or the layers up to
 // the next that has a slot. Either is made once for the hours that there are places for, and made again where the plan
-// comes past them. The definitions are those of specs/Held, locks' specs/Locked and slots' specs/Saved. Each function is
-// called by crates of this repository, which keep what it asks for.
+// comes past them. The definitions are those of specs/Held, locks' specs/Locked and slots' specs/Saved. Each function
+// is called by crates of this repository, which keep what it asks for.
 use locks::Held;
 use machine::Charges;
 use machine::ENTRIES;

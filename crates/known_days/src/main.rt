@@ -1,7 +1,7 @@
 // The days whose answers are known from outside: the twelve of the scope on its small unit, pairs of lists, prices
 // below zero and far above it and days of a calendar on that unit, days that open and close inside a sequence on a
-// unit with longer trajectories, minimum times of up to 24 hours, and the days of the source, up to a week, whose case is
-// read from standard input in the old form and written in form 3. Prints one line for each: what was asked, and the
+// unit with longer trajectories, minimum times of up to 24 hours, and the days of the source, up to a week, whose case
+// is read from standard input in the old form and written in form 3. Prints one line for each: what was asked, and the
 // answer of best::schedule, of rules::check, of offers::compare with the part of offers::better, of
 // calendar::schedule_by_calendar, or of codec::write.
 use libc::STDIN_FILENO;

@@ -1,5 +1,5 @@
-// The refusals of a record, 2 to 8 and 13: one test for each number, and the first that applies; and how many numbers its
-// search works in (model's specs/Refusals).
+// The refusals of a record, 2 to 8 and 13: one test for each number, and the first that applies; and how many numbers
+// its search works in (model's specs/Refusals).
 ghost use mathlib.Core.Bool.{false, cond};
 ghost use mathlib.Core.Path.{_≡_};
 ghost use Prim.Native.Nat.{suc, _≤_, _<_};

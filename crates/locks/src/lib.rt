@@ -1,6 +1,6 @@
 // The rows of a lock, made from the layer of the hour at which the lock ends, or the end of the day, and kept while the
-// plan goes through its hours. The definitions are those of specs/Locked and slots' specs/Saved. Each function is called
-// by crates of this repository, which keep what it asks for.
+// plan goes through its hours. The definitions are those of specs/Locked and slots' specs/Saved. Each function is
+// called by crates of this repository, which keep what it asks for.
 use machine::Charges;
 use machine::ENTRIES;
 use machine::KEPT;
@@ -24,8 +24,8 @@ ghost use Rattle.slots.specs.Saved.{Slotted, Saved};
 ghost use Rattle.locks.specs.Locked.{Locked, lockEnd};
 ghost use Rattle.machine.specs.Lengths.{mostPlaces, keptLength};
 
-// What is kept of the hours ahead: rows of a lock, by the hour at which it ends, or layers, where that is 0; and the hour
-// before which they end.
+// What is kept of the hours ahead: rows of a lock, by the hour at which it ends, or layers, where that is 0; and the
+// hour before which they end.
 pub struct Held {
     pub end: Hour,
     pub to: Hour,

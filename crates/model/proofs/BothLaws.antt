@@ -21,7 +21,7 @@ use Rattle.model.specs.Next.{leaves, anotherDay, nextDay, bothDays}
 use Rattle.model.specs.Refusals.{refusalOf}
 use Rattle.model.specs.Published.{Opening, Limited, limit2, limit3, limit4, limit5, limit6, limit7, limit8}
 use Rattle.model.specs.Published.{limit13, FirstRefused, recordOrder, costs}
-use Rattle.model.proofs.RefusalsLaws.{none-first}
+use Rattle.model.proofs.RefusalsLaws.{none-first, record-numbers}
 use Rattle.model.proofs.LayoutLaws.{length-listed, getD-listed}
 use Rattle.model.proofs.LimitsLaws.{Limits, Opened, opened-free, opened-up, opened-down}
 use Rattle.model.proofs.LimitedLaws.{limits}
@@ -144,7 +144,7 @@ module _ (c : Case) (prices : List Mills) (orders : List ℕ) (n : ℕ) where
 
     none-refused : FirstRefused (Limited (anotherDay c prices orders n)) recordOrder 0
         → FirstRefused (Limited (nextDay c l prices orders n)) recordOrder 0
-    none-refused = none-first (λ m. reopened) (tt, (tt, (tt, (tt, (tt, (tt, (tt, (tt, tt))))))))
+    none-refused = none-first (λ m. reopened) record-numbers
 
   pub next-limits : refusalOf (anotherDay c prices orders n) ≡ 0 → (l : List ℕ)
       → Opening (nextDay c l prices orders n) → refusalOf (nextDay c l prices orders n) ≡ 0

@@ -12,7 +12,7 @@ use Rattle.model.specs.Answers.{readOf, outcomeNumber}
 use Rattle.model.specs.Published.{CountsTo, RatesTo, LimitedTo, LimitedBefore, limit2, limit3, limit4, limit5}
 use Rattle.model.specs.Published.{limit6, limit7, limit8, limit13, FirstRefused, later, recordOrder, fileOrder}
 use Rattle.model.specs.Published.{FileLimitedTo, FileLimitedBefore, file1, file2, file12, held}
-use Rattle.model.proofs.RefusalsLaws.{none-first}
+use Rattle.model.proofs.RefusalsLaws.{none-first, record-numbers, file-numbers}
 use Rattle.model.proofs.LimitedLaws.{limits}
 use Rattle.model.proofs.CutLaws.{readOf-accepted}
 use Rattle.model.proofs.HoldsLaws.{read-holds}
@@ -56,7 +56,7 @@ short-times (limit4 m) = (m .minup .1, m .mindown .1)
 pub admitted-before : (c : Case) → FirstRefused (LimitedBefore c) recordOrder 0
     → (refusalOf c ≡ 0) × (workLength c ≡ shortWork)
 admitted-before c f =
-    (limits c 0 .1 (none-first (wider (omega arith) (omega arith)) (tt, (tt, (tt, (tt, (tt, (tt, (tt, (tt, tt)))))))) f), short-of f)
+    (limits c 0 .1 (none-first (wider (omega arith) (omega arith)) record-numbers f), short-of f)
   where
     short-of : FirstRefused (LimitedBefore c) recordOrder 0 → workLength c ≡ shortWork
     short-of (later a (later b (later l k))) = let (u, d) = short-times l in work-short c u d
@@ -67,7 +67,7 @@ read-before s f = (readOf-accepted s read, short-of f)
   where
     read : outcomeNumber (readOf s .outcome) ≡ 0
     read = file-limits s 0 .1
-        (none-first (wider-file (omega arith) (omega arith)) (tt, (tt, (tt, (tt, (tt, (tt, (tt, (tt, (tt, (tt, tt)))))))))) f)
+        (none-first (wider-file (omega arith) (omega arith)) file-numbers f)
 
     short-of : FirstRefused (FileLimitedBefore s) fileOrder 0 → workLength (readOf s .case) ≡ shortWork
     short-of (later a (later b (later c (later d (later l k))))) = go l

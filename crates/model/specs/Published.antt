@@ -1,6 +1,6 @@
 -- A second view of the limits and the layout: the published numbers field by field, and the bytes of a file at their
--- offsets (document 01, "Case file" and "Refusal list"; requests F-2, F-5 and F-6). The promises tie it to Limits, Forms,
--- Refusals and Layout; no entry rests on it. Definitions only. Assumes nothing.
+-- offsets (document 01, "Case file" and "Refusal list"; requests F-2, F-5 and F-6). The promises tie it to Limits,
+-- Forms, Refusals and Layout; no entry rests on it. Definitions only. Assumes nothing.
 use mathlib.Core.Path.{_≡_}
 use mathlib.Core.Logic.{_⊎_}
 use mathlib.Core.List.{List, [], _∷_, _++_}

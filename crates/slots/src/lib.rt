@@ -22,7 +22,8 @@ ghost use Rattle.cells.specs.Table.{Entries, Layer, Day, cellsOf};
 ghost use Rattle.machine.specs.Lengths.{sideLength};
 ghost use Rattle.slots.specs.Saved.{SavedAt, Kept, Slotted, Saved, Based, slotFrom};
 
-// The numbers of a slot, and how many layers from one that is kept to the next: as few as so many numbers have room for.
+// The numbers of a slot, and how many layers from one that is kept to the next: as few as so many numbers have room
+// for.
 pub fn width_of(u: Unit) -> usize
     requires { ⌜ Fit u ⌝ }
     ensures { λ r. ⌜ r ≡ cellsOf u + sideLength ⌝ }

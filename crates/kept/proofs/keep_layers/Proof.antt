@@ -13,7 +13,8 @@ abbrev start : tie.After-least → tie.Start
 start c = c .before .before .before .before .before
 
 module _ (c : tie.After-least) where
-  hour : c .before .slot-from .result .hour .0 ≡ slotFrom (start c .args .l .0) (start c .args .k .0) * start c .args .l .0
+  hour : c .before .slot-from .result .hour .0
+      ≡ slotFrom (start c .args .l .0) (start c .args .k .0) * start c .args .l .0
   hour =
       let slot = c .before .slot-from in
       slot .ensures .1 ∙ ap (λ n. n * start c .args .l .0) (slot .ensures .0)

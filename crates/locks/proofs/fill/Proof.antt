@@ -1,5 +1,5 @@
--- `locks::fill` meets its contract. The invariant: the row is that of hour h, with as many hours to go as the end of the
--- lock allows, and the rows from hour h on are kept. Assumes nothing.
+-- `locks::fill` meets its contract. The invariant: the row is that of hour h, with as many hours to go as the end of
+-- the lock allows, and the rows from hour h on are kept. Assumes nothing.
 use borrow.Author.Needs.{needs}
 use native.Mathlib.Omega.{arith}
 use mathlib.Core.Path.{_≡_, refl, sym}
@@ -60,8 +60,9 @@ from t j e =
     let l = head t .loop in
     let s = called t in
     let up : l .h .0 ≡ suc (l .h .0 - 1) = omega (arith, t .if1 .taken) in
+    let le = limit (bounded (counted (head t))) in
     row-at (s .args .u) (day s) up refl
-    (l .inv .2 (j - 1) (omega (arith, limit (bounded (counted (head t))), l .inv .1, t .if1 .taken, s .pre .1 .1 .0 .1)))
+    (l .inv .2 (j - 1) (omega (arith, le, l .inv .1, t .if1 .taken, s .pre .1 .1 .0 .1)))
 
 cast-t18 : tie.Need-cast-t18 Inv-loop μ-loop
 cast-t18 c = search needs
@@ -176,8 +177,9 @@ put-requires c κs =
     let s = called t in
     let n = counted (head t) .cells-of .ensures in
     let i = s .args .b .0 - l .h .0 in
+    let le = limit (bounded (counted (head t))) in
     let r = c .before .before .before .before .lock-hour .ensures i 0 (omega arith) (omega (arith, n)) (some t) in (
-      omega (arith, t .if1 .taken, n, l .inv .0, l .inv .1, limit (bounded (counted (head t))), l .inv .3 .long, wide s),
+      omega (arith, t .if1 .taken, n, l .inv .0, l .inv .1, le, l .inv .3 .long, wide s),
       omega (arith, n, r .long),
     )
 

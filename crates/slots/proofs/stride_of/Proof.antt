@@ -28,7 +28,8 @@ sub-whole c = omega (arith, c .before .before .pre .0 .hours-pos)
 whole-requires : tie.Need-whole-requires
 whole-requires c κs =
     let s = c .before .before in
-    omega (arith, c .up-to .ensures, slots-pos (s .args .u) (s .pre .0) (s .args .n) (s .args .room) (s .pre .1 .0) (s .pre .1 .1))
+    let one = slots-pos (s .args .u) (s .pre .0) (s .args .n) (s .args .room) (s .pre .1 .0) (s .pre .1 .1) in
+    omega (arith, c .up-to .ensures, one)
 
 -- the stride, by the slots that were counted
 slotted : (c : tie.After-whole)
