@@ -84,6 +84,12 @@ Limited = LimitedTo 168 24
 abbrev pub LimitedBefore : Case → ℕ → Type 0
 LimitedBefore = LimitedTo 48 8
 
+-- a record has no more hours and no longer minimum times than without request F-6
+pub record NoLonger (c : Case) : Type 0 where
+  pub hours : c .hours ≤ 48
+  pub minup : c .minup .0 ≤ 8
+  pub mindown : c .mindown .0 ≤ 8
+
 -- the first of these numbers whose limits are not kept; 0 where all are
 pub data FirstRefused (limited : ℕ → Type 0) : List ℕ → ℕ → Type 0 where
   none : FirstRefused limited [] 0
