@@ -3,6 +3,7 @@
 mod calendars;
 mod files;
 mod pairs;
+mod searches;
 mod stages;
 mod weeks;
 
@@ -150,9 +151,7 @@ fn longer_days(tally: &mut Tally) -> String {
     let mut without_list = 0;
     for index in 0..LONGER_DAYS {
         let case = longer_day(&mut Rng::for_index(SEED + 3, index));
-        let plan = by_commitment(&case);
-        without_list += u64::from(plan.is_none());
-        tally.same("dp", best_list(&case), plan);
+        without_list += u64::from(searches::by_every_commitment(tally, &case).is_none());
     }
     format!("; {without_list} without a list")
 }
@@ -167,13 +166,7 @@ fn full_days(tally: &mut Tally) -> String {
             1..=3 => full_day(&mut rng),
             _ => long_day(&mut rng),
         };
-        match best_list(&case) {
-            None => without_list += 1,
-            Some(plan) => {
-                let passes = answers::Verdict { number: 0, hour: 0, rule: 0, profit: plan.profit };
-                tally.same("dp's list", answers::verdict(&case, &plan.list), passes);
-            }
-        }
+        without_list += u64::from(searches::by_the_check(tally, &case).is_none());
     }
     format!("; {without_list} without a list")
 }

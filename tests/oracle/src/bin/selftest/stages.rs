@@ -1,9 +1,8 @@
 //! Days that open and close inside a sequence: the known ones, `dp` against trying every list, and two days back to
 //! back against one list.
 
-use crate::{known_rows, Tally, SEED};
-use oracle::answers::{self, Verdict};
-use oracle::best::{by_commitment, every_list, Plan};
+use crate::{known_rows, searches, Tally, SEED};
+use oracle::best::Plan;
 use oracle::case::{Case, MOST_HOURS};
 use oracle::dp::{best_list, KeptLists};
 use oracle::known_stages::{known_stages, left_by, COUNT};
@@ -49,7 +48,7 @@ struct Counts {
 
 impl Counts {
     /// Counts a day with its best list.
-    fn add(&mut self, case: &Case, plan: Option<&Plan>) {
+    fn add(&mut self, case: &Case, plan: Option<Plan>) {
         self.rising += u64::from(case.up_stage > 0);
         self.falling += u64::from(case.down_stage > 0);
         match plan {
@@ -71,10 +70,7 @@ pub fn small(tally: &mut Tally) -> String {
     let mut counts = Counts::default();
     for index in 0..SMALL {
         let case = small_staged(&mut Rng::for_index(SEED + 9, index));
-        let plan = every_list(&case);
-        counts.add(&case, plan.as_ref());
-        tally.same("by commitment", &by_commitment(&case), &plan);
-        tally.same("dp", best_list(&case), plan);
+        counts.add(&case, searches::by_every_list(tally, &case));
     }
     counts.words()
 }
@@ -84,9 +80,7 @@ pub fn longer(tally: &mut Tally) -> String {
     let mut counts = Counts::default();
     for index in 0..LONGER {
         let case = longer_staged(&mut Rng::for_index(SEED + 10, index));
-        let plan = by_commitment(&case);
-        counts.add(&case, plan.as_ref());
-        tally.same("dp", best_list(&case), plan);
+        counts.add(&case, searches::by_every_commitment(tally, &case));
     }
     counts.words()
 }
@@ -96,12 +90,7 @@ pub fn full(tally: &mut Tally) -> String {
     let mut counts = Counts::default();
     for index in 0..FULL {
         let case = full_staged(&mut Rng::for_index(SEED + 11, index));
-        let plan = best_list(&case);
-        counts.add(&case, plan.as_ref());
-        if let Some(plan) = plan {
-            let passes = Verdict { number: 0, hour: 0, rule: 0, profit: plan.profit };
-            tally.same("dp's list", answers::verdict(&case, &plan.list), passes);
-        }
+        counts.add(&case, searches::by_the_check(tally, &case));
     }
     counts.words()
 }

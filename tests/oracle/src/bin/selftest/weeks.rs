@@ -1,9 +1,9 @@
 //! Weeks and long minimum times: the known ones, the longer cases of the source, and `dp` against trying
 //! every list.
 
-use crate::{known_rows, Tally, SEED};
+use crate::{known_rows, searches, Tally, SEED};
 use oracle::answers::{self, Verdict};
-use oracle::best::{by_commitment, every_list, Plan};
+use oracle::best::Plan;
 use oracle::case::{Case, ON_LINE};
 use oracle::days::{known_unit, with_orders, TABLE_V};
 use oracle::dp::{best_list, KeptLists};
@@ -84,7 +84,7 @@ struct Counts {
 
 impl Counts {
     /// Counts a day by its best list.
-    fn add(&mut self, plan: Option<&Plan>) {
+    fn add(&mut self, plan: Option<Plan>) {
         self.days += 1;
         self.without_list += u64::from(plan.is_none());
     }
@@ -100,10 +100,7 @@ pub fn small(tally: &mut Tally) -> String {
     let mut counts = Counts::default();
     for index in 0..SMALL {
         let case = small_locked(&mut Rng::for_index(SEED + 15, index));
-        let plan = every_list(&case);
-        counts.add(plan.as_ref());
-        tally.same("by commitment", &by_commitment(&case), &plan);
-        tally.same("dp", best_list(&case), plan);
+        counts.add(searches::by_every_list(tally, &case));
     }
     counts.words()
 }
@@ -113,17 +110,9 @@ pub fn longer(tally: &mut Tally) -> String {
     let mut counts = Counts::default();
     for index in 0..LONGER {
         let case = longer_locked(&mut Rng::for_index(SEED + 16, index));
-        let plan = by_commitment(&case);
-        counts.add(plan.as_ref());
-        tally.same("dp", best_list(&case), plan);
+        counts.add(searches::by_every_commitment(tally, &case));
     }
     counts.words()
-}
-
-/// The list of `dp` passes the check and earns what `dp` says.
-fn passes(tally: &mut Tally, case: &Case, plan: &Plan) {
-    let passes = Verdict { number: 0, hour: 0, rule: 0, profit: plan.profit };
-    tally.same("dp's list", answers::verdict(case, &plan.list), passes);
 }
 
 /// On weeks the list of `dp` passes the check and earns what `dp` says; of the largest weeks, how long each
@@ -133,17 +122,14 @@ pub fn full(tally: &mut Tally) -> String {
     for index in 0..WEEKS {
         let mut rng = Rng::for_index(SEED + 17, index);
         let case = if index % 2 == 0 { full_week(&mut rng) } else { locked_week(&mut rng) };
-        let plan = best_list(&case);
-        counts.add(plan.as_ref());
-        plan.iter().for_each(|plan| passes(tally, &case, plan));
+        counts.add(searches::by_the_check(tally, &case));
     }
     for index in 0..LARGEST {
         let case = largest_week(&mut Rng::for_index(SEED + 18, index));
         let begun = Instant::now();
-        let plan = best_list(&case);
+        let plan = searches::by_the_check(tally, &case);
         longest = longest.max(begun.elapsed().as_secs_f64());
-        counts.add(plan.as_ref());
-        plan.iter().for_each(|plan| passes(tally, &case, plan));
+        counts.add(plan);
     }
     format!("{}; the largest take {:.0} ms at the most", counts.words(), 1e3 * longest)
 }
