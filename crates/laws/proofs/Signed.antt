@@ -177,3 +177,10 @@ multiple-- a b n =
       parts-- (a *ℤ pos n) (b *ℤ pos n),
       ap (λ x. x * n) (parts-- a b),
     ))
+
+-- nothing left, and nothing taken
+pub less-self : (a : ℤ) → a -ℤ a ≡ pos 0
+less-self a = omega (linear, parts-- a a, parts-pos 0)
+
+pub less-none : (a : ℤ) → a -ℤ pos 0 ≡ a
+less-none a = omega (linear, parts-- a (pos 0), parts-pos 0)

@@ -7,6 +7,14 @@ use Rattle.model.specs.Limits.{mostHours, mostOutput, mostVariable, mostCharge,
 abbrev pub mostEnds : ℕ
 mostEnds = 3 * mostOutput
 
+-- half-megawatt-hours: the energy of an hour within the capacity
+abbrev pub mostEnergy : ℕ
+mostEnergy = 2 * mostOutput
+
+-- half-mills: an entry of a table of what an hour costs by its energy (request F-7)
+abbrev pub mostCost : ℕ
+mostCost = 640801000000
+
 -- half-mills: what a half-megawatt-hour earns or loses; what an on-line hour, a start or a stop costs
 abbrev pub mostMargin : ℕ
 mostMargin = mostPrice + mostVariable
@@ -16,7 +24,7 @@ mostFee = 2 * mostCharge
 
 -- half-mills: what an hour earns or loses; what the hours of a day do
 abbrev pub mostEarned : ℕ
-mostEarned = mostMargin * mostEnds + 2 * mostFee
+mostEarned = mostMargin * mostEnds + 2 * mostCost + 2 * mostFee
 
 abbrev pub mostWorth : ℕ
 mostWorth = mostHours * mostEarned

@@ -5,6 +5,7 @@ use Prim.Native.Nat.{ℕ, zero, suc, _+_, _-_, _≤_, _<_, min}
 use lib.IntN.{ℤ, pos, _+ℤ_}
 use Rattle.model.specs.declared.Case.{Case}
 use Rattle.model.specs.Symbols.{high, low, UD, DD}
+use Rattle.machine.specs.declared.Rates.{Rates}
 use Rattle.machine.specs.declared.State.{State}
 use Rattle.machine.specs.declared.State.the-variants.{Rise, Fall}
 use Rattle.model.specs.Automaton.{St, off, up, run, down}
@@ -28,6 +29,6 @@ Good c (run r w) = (low c ≤ r) × (r ≤ high c)
 Good c (down i) = (1 ≤ i) × (i ≤ DD c)
 
 -- what a list earns from hour k on, hours from 0, after output q
-abbrev pub profitFrom : Case → ℕ → ℕ → List ℕ → ℤ
-profitFrom c k q [] = pos 0
-profitFrom c k q (p ∷ l) = earn (termsOf c k) q p +ℤ profitFrom c (suc k) p l
+abbrev pub profitFrom : Case → Rates → List ℤ → ℕ → ℕ → List ℕ → ℤ
+profitFrom c r costs k q [] = pos 0
+profitFrom c r costs k q (p ∷ l) = earn (termsOf c r costs k) q p +ℤ profitFrom c r costs (suc k) p l

@@ -33,7 +33,7 @@ module _ (c : Case) (e : refusalOf c ≡ 0) where
   unfolding judged
   verdict l = go (ℕ-discrete (length l) (last c))
     where
-      found : length l ≡ last c → (r : Option Breach) → breach c l ≡ r → Judged c l (judged c l r)
+      found : length l ≡ last c → (r : Option Breach) → breach c l ≡ r → Judged c l (judged (profitOf c l) r)
       found h none d = passing (kept-of-none c l h d)
       found h (some b) d = breaking (λ t. let z : _≡_ {A = ℕ} 0 1 = let k = kept-none c l t in cc in omega arith) h
 

@@ -1,22 +1,25 @@
 -- The unit of a case: its entries are the case's up to the counts and 0 past them. Assumes nothing.
 use mathlib.Core.Path.{_≡_, refl, sym, ap, _∙_}
 use mathlib.Core.Bool.{true, not, cond}
+use mathlib.Core.List.{List}
 use Prim.Native.Nat.{ℕ, zero, suc, _≤_, _<_}
 use native.Mathlib.Decide.{decLt}
 use native.Mathlib.Omega.{arith}
 use borrow.Author.Tests.{ne-eqb, eqb-false, not-true}
 use lib.Dec.{eqb, eqb·suc-zero}
-use lib.IntN.{pos, _-ℤ_}
+use lib.IntN.{ℤ, pos, _-ℤ_}
 use lib.ListN.{getD, List·getD-eq-default}
 use Rattle.model.specs.declared.Case.{Case}
+use Rattle.model.specs.declared.Mills.{Mills}
 use Rattle.model.specs.declared.Output.{Output}
 use Rattle.model.specs.Limits.{mostStages, mostHours}
-use Rattle.model.specs.Symbols.{UD, DD, PU, PD, F, last, price, order}
+use Rattle.model.specs.Symbols.{UD, DD, PU, PD, last, price, order}
 use Rattle.model.specs.Layout.{padded, noOutput, noMills}
 use Rattle.model.proofs.LimitsLaws.{Limits}
 use Rattle.model.specs.Words.{Ordered}
 use Rattle.model.proofs.LayoutLaws.{length-padded, getD-padded-in, getD-padded-past}
 use Rattle.model.proofs.SymbolsLaws.{stage-suc, hourly-suc, priced-suc}
+use Rattle.machine.specs.declared.Rates.{Rates}
 use Rattle.machine.specs.Moves.{puAt, pdAt, obeys}
 use Rattle.machine.specs.Cases.{unitOf, marginsOf, ordersOf, termsOf}
 
@@ -49,10 +52,10 @@ module _ (c : Case) where
   pd-past i h =
       ap (λ (o : Output). o .0) (padded-rest noOutput (λ i. getD (c .fall) i noOutput) (DD c) mostStages i h)
 
-  -- the margin of an hour in mills per MWh: its price less F
-  pub margin-past : (k : ℕ) → last c ≤ k → getD (marginsOf c) k (pos 0) ≡ pos 0
+  -- the margin of an hour: its price less what its energy costs
+  pub margin-past : (m : Mills) (k : ℕ) → last c ≤ k → getD (marginsOf c m) k (pos 0) ≡ pos 0
   unfolding marginsOf
-  margin-past k h = padded-rest (pos 0) (λ k. getD (c .prices) k noMills .0 -ℤ F c) (last c) mostHours k h
+  margin-past m k h = padded-rest (pos 0) (λ k. getD (c .prices) k noMills .0 -ℤ m .0) (last c) mostHours k h
 
   module _ (lim : Limits c) where
     pub pu-at : (i : ℕ) → i < UD c → puAt (unitOf c) i ≡ PU c (suc i)
@@ -71,12 +74,12 @@ module _ (c : Case) where
         (getD-padded-in noOutput (λ i. getD (c .fall) i noOutput) (DD c) mostStages noOutput i h room)
         ∙ sym (stage-suc (c .fall) i)
 
-    pub margin-at : (k : ℕ) → k < last c → getD (marginsOf c) k (pos 0) ≡ price c (suc k) -ℤ F c
+    pub margin-at : (m : Mills) (k : ℕ) → k < last c → getD (marginsOf c m) k (pos 0) ≡ price c (suc k) -ℤ m .0
     unfolding marginsOf
-    margin-at k h =
+    margin-at m k h =
         let room : k < mostHours = omega (arith, lim .hours-le) in
-        getD-padded-in (pos 0) (λ k. getD (c .prices) k noMills .0 -ℤ F c) (last c) mostHours (pos 0) k h room
-        ∙ ap (λ x. x -ℤ F c) (sym (priced-suc (c .prices) k))
+        getD-padded-in (pos 0) (λ k. getD (c .prices) k noMills .0 -ℤ m .0) (last c) mostHours (pos 0) k h room
+        ∙ ap (λ x. x -ℤ m .0) (sym (priced-suc (c .prices) k))
 
     order-at : (k : ℕ) → k < last c → getD (ordersOf c) k 0 ≡ order c (suc k)
     unfolding ordersOf
@@ -85,12 +88,14 @@ module _ (c : Case) where
         ∙ sym (hourly-suc (c .orders) k)
 
     -- the order of an hour, from 0, allows an output
-    pub obeys-of-ordered : (k q : ℕ) → k < last c → Ordered c (suc k) q → obeys (termsOf c k) q ≡ true
+    pub obeys-of-ordered : (r : Rates) (costs : List ℤ) (k q : ℕ) → k < last c → Ordered c (suc k) q
+        → obeys (termsOf c r costs k) q ≡ true
     unfolding obeys
-    obeys-of-ordered k q h o = rw (order-at k h) (allows-of (order c (suc k)) q (o .on-line) (o .off-line))
+    obeys-of-ordered r costs k q h o = rw (order-at k h) (allows-of (order c (suc k)) q (o .on-line) (o .off-line))
 
-    pub ordered-of-obeys : (k q : ℕ) → k < last c → obeys (termsOf c k) q ≡ true → Ordered c (suc k) q
+    pub ordered-of-obeys : (r : Rates) (costs : List ℤ) (k q : ℕ) → k < last c → obeys (termsOf c r costs k) q ≡ true
+        → Ordered c (suc k) q
     unfolding obeys
-    ordered-of-obeys k q h e =
+    ordered-of-obeys r costs k q h e =
         let (a, b) = of-allows (order c (suc k)) q (rw (order-at k h) at e) in
         record { on-line = a; off-line = b; known = lim .order-le (suc k) (omega arith) h }

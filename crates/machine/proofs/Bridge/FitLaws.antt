@@ -1,28 +1,42 @@
 -- The unit of a case within the limits fits, and the state in which its day opens is proper. Assumes nothing.
-use mathlib.Core.Path.{_≡_, refl}
+use mathlib.Core.Path.{_≡_, refl, sym, ap}
+use mathlib.Core.Logic.{inl}
+use mathlib.Core.List.{List, []}
 use mathlib.Core.Bool.{Bool, true, false, cond}
 use Prim.Native.Nat.{ℕ, suc, _+_, _-_, _≤_, _<_, min}
 use native.Mathlib.Decide.{decLt}
 use native.Mathlib.Omega.{arith}
 use borrow.Author.Tests.{eqb-true, eqb-false}
 use lib.Dec.{eqb}
-use lib.IntN.{ℤ, pos, natAbs, _*ℤ_}
+use lib.IntN.{ℤ, pos, natAbs, _+ℤ_, _*ℤ_, +ℤ-idr}
 use lib.ListN.{getD}
 use Rattle.laws.proofs.Magnitude.{abs--, abs-*}
 use Rattle.model.specs.declared.Case.{Case}
-use Rattle.model.specs.Limits.{mostCharge}
-use Rattle.model.specs.Symbols.{high, low, UD, DD, F, last, price, p0, h, upStage, downStage}
+use Rattle.model.specs.declared.Mills.{Mills}
+use Rattle.model.specs.Limits.{mostVariable, mostCharge}
+use Rattle.model.specs.Symbols.{high, low, UD, DD, A, F, last, price, p0, h, upStage, downStage}
+use Rattle.model.specs.Profit.{plainCost}
 use Rattle.model.specs.Refusals.{refusalOf}
 use Rattle.model.proofs.LimitsLaws.{Amount, Limits, limits-of-refusalOf}
 use Rattle.machine.specs.Bounds.{mostMargin, mostFee}
 use Rattle.model.proofs.OpeningLaws.{in-start, in-stop, in-none}
+use Rattle.machine.specs.declared.Rates.{Rates}
 use Rattle.machine.specs.declared.State.the-variants.{Rise, Fall}
-use Rattle.machine.specs.Moves.{idle, running, puAt, pdAt}
-use Rattle.machine.specs.Cases.{unitOf, marginsOf, chargesOf, termsOf, openingOf}
-use Rattle.machine.specs.Fit.{Fit, Fair}
+use Rattle.machine.specs.Moves.{spent, idle, running, puAt, pdAt}
+use Rattle.machine.specs.Cases.{unitOf, marginsOf, chargesOf, termsOf, Pays, ratesOf, openingOf}
+use Rattle.machine.specs.Fit.{Fit, Tabled, Fair}
 use Rattle.machine.specs.Proper.{Proper}
 use Rattle.model.proofs.Automaton.Stages.{pu-le, pd-le, pd-lt}
 use Rattle.machine.proofs.Bridge.CasesLaws.{pu-past, pd-past, pu-at, pd-at, margin-past, margin-at}
+
+-- no table at all
+no-table : Tabled []
+no-table =
+    record {
+      long = inl refl;
+      cost-le = λ n. omega arith;
+      bent = λ x m n h. record { le = tt };
+    }
 
 module _ (c : Case) (lim : Limits c) where
   -- the trajectories at every place
@@ -50,28 +64,40 @@ module _ (c : Case) (lim : Limits c) where
   rise-pos : 1 ≤ puAt (unitOf c) 0
   rise-pos = omega (arith, pu-at c lim 0 (lim .rises-pos), lim .rise-pos)
 
-  -- the terms of every hour
-  margin-le : (k : ℕ) → natAbs (getD (marginsOf c) k (pos 0)) ≤ mostMargin
-  margin-le k = go (decLt k (last c))
+  -- the tariff of every hour
+  margin-le : (m : Mills) → natAbs (m .0) ≤ mostVariable → (k : ℕ)
+      → natAbs (getD (marginsOf c m) k (pos 0)) ≤ mostMargin
+  margin-le m le k = go (decLt k (last c))
     where
-      go : Dec (k < last c) → natAbs (getD (marginsOf c) k (pos 0)) ≤ mostMargin
+      go : Dec (k < last c) → natAbs (getD (marginsOf c m) k (pos 0)) ≤ mostMargin
       go (yes l) =
-          let size = abs-- (price c (suc k)) (F c) in
-          rw (margin-at c lim k l)
-          (omega (arith, size, lim .price-le (suc k) (omega arith) l, lim .variable-in .le))
-      go (no l) = rw (margin-past c k (omega arith)) (omega arith)
+          let size = abs-- (price c (suc k)) (m .0) in
+          rw (margin-at c lim m k l) (omega (arith, size, lim .price-le (suc k) (omega arith) l))
+      go (no l) = rw (margin-past c m k (omega arith)) (omega arith)
 
   doubled-le : {z : ℤ} → Amount mostCharge z → natAbs (z *ℤ pos 2) ≤ mostFee
   doubled-le {z} a = omega (arith, abs-* z 2, a .le)
 
-  fair : (k : ℕ) → Fair (termsOf c k)
+  fair : {r : Rates} {costs : List ℤ} {cost : ℕ → ℤ} → Pays r costs cost → (k : ℕ) → Fair (termsOf c r costs k)
   unfolding chargesOf
-  fair k =
+  fair {r} pays k =
       record {
-        margin-le = margin-le k;
-        holds-le = doubled-le (lim .fixed-in);
+        margin-le = margin-le (r .variable) (pays .variable-le) k;
+        holds-le = pays .holds-le;
         starts-le = doubled-le (lim .startcost-in);
         stops-le = doubled-le (lim .stopcost-in);
+        tabled = pays .tabled;
+      }
+
+  -- by the costs of the case
+  own : Pays (ratesOf c) [] (plainCost c)
+  unfolding spent plainCost
+  own =
+      record {
+        variable-le = lim .variable-in .le;
+        holds-le = doubled-le (lim .fixed-in);
+        tabled = no-table;
+        says = λ n h. ap (λ x. x +ℤ A c *ℤ pos 2) (sym (+ℤ-idr (F c *ℤ pos n)));
       }
 
   fit : Fit (unitOf c)
@@ -124,8 +150,12 @@ module _ (c : Case) (lim : Limits c) where
 pub fit-of-limits : (c : Case) → refusalOf c ≡ 0 → Fit (unitOf c)
 fit-of-limits c e = fit c (limits-of-refusalOf c e)
 
-pub fair-of-limits : (c : Case) → refusalOf c ≡ 0 → (k : ℕ) → Fair (termsOf c k)
+pub fair-of-limits : (c : Case) → refusalOf c ≡ 0 → {r : Rates} {costs : List ℤ} {cost : ℕ → ℤ} → Pays r costs cost
+    → (k : ℕ) → Fair (termsOf c r costs k)
 fair-of-limits c e = fair c (limits-of-refusalOf c e)
+
+pub own-pays : (c : Case) → refusalOf c ≡ 0 → Pays (ratesOf c) [] (plainCost c)
+own-pays c e = own c (limits-of-refusalOf c e)
 
 pub opening-proper : (c : Case) → refusalOf c ≡ 0 → Proper (unitOf c) (openingOf c)
 opening-proper c e = proper c (limits-of-refusalOf c e)

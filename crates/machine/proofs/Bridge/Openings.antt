@@ -4,7 +4,7 @@ use mathlib.Core.Path.{_≡_, refl, sym, ap, _∙_, subst}
 use mathlib.Core.Bool.{Bool, true, false, _&&_, cond}
 use mathlib.Core.List.{List}
 use mathlib.Core.Option.{Option, none, some}
-use Prim.Native.Nat.{ℕ, zero, suc, _+_, _-_, min}
+use Prim.Native.Nat.{ℕ, zero, suc, _+_, _-_, _≤_, min}
 use native.Mathlib.Omega.{arith}
 use borrow.Author.Tests.{lt-ltb, ltb-true, ltb-false}
 use lib.Dec.{T, ltb, eqb, eqb·suc-zero}
@@ -12,21 +12,26 @@ use lib.IntN.{ℤ}
 use Rattle.laws.proofs.Tests.{both, true→T, false→not}
 use Rattle.model.specs.declared.Case.{Case}
 use Rattle.model.specs.Symbols.{DD, PU, PD, last, p0, h, upStage, downStage}
+use Rattle.model.specs.Limits.{mostOutput}
+use Rattle.model.specs.Marks.{p}
 use Rattle.model.specs.Rules.{keeps}
-use Rattle.model.specs.Profit.{profitOf}
+use Rattle.model.specs.Profit.{profitBy}
 use Rattle.model.proofs.LimitsLaws.{Limits}
+use Rattle.model.proofs.MarksLaws.{p-zero, p-suc}
+use Rattle.model.proofs.CapacityLaws.{initial-le, output-le}
 use Rattle.model.proofs.OpeningLaws.{in-start, in-stop, in-none}
+use Rattle.machine.specs.declared.Rates.{Rates}
 use Rattle.machine.specs.declared.State.the-variants.{Rise, Fall}
 use Rattle.machine.specs.Search.{outcome}
 use Rattle.machine.specs.Order.{earned}
 use Rattle.machine.specs.Moves.{idle, running, output, machine}
-use Rattle.machine.specs.Cases.{unitOf, termsOf, openingOf, stopsEarly}
+use Rattle.machine.specs.Cases.{unitOf, termsOf, Pays, openingOf, stopsEarly}
 use Rattle.model.specs.Automaton.{St, first, LateStop}
 use Rattle.machine.specs.Image.{image, Good, profitFrom}
 use Rattle.model.proofs.Automaton.Keeping.{keeps-runs}
 use Rattle.machine.proofs.Bridge.CasesLaws.{pu-at, pd-at}
 use Rattle.machine.proofs.Bridge.Listed.{runs-profit, runs-of-earned}
-use Rattle.machine.proofs.Bridge.Profits.{profitFrom-profitOf}
+use Rattle.machine.proofs.Bridge.Profits.{profitFrom-profitBy}
 
 module _ (c : Case) where
   -- the state in which the automaton opens
@@ -94,34 +99,43 @@ module _ (c : Case) where
         let kept = ap (λ t. t && ltb (h c + DD c) (c .minup .0 + downStage c)) (sym (lt-ltb 0 (downStage c) a)) ∙ e in
         ltb-false (h c + DD c) (c .minup .0 + downStage c) kept
 
-    module _ (late : LateStop c) (l : List ℕ) where
+    module _ (late : LateStop c) {rates : Rates} {costs : List ℤ} {cost : ℕ → ℤ} (pays : Pays rates costs cost)
+        (l : List ℕ) where
       abbrev Outcome : Option ℤ
-      Outcome = outcome (machine (unitOf c) (termsOf c)) 0 (last c) (image c start) l
+      Outcome = outcome (machine (unitOf c) (termsOf c rates costs)) 0 (last c) (image c start) l
 
-      outcome-of-keeps : T (keeps c l) → Outcome ≡ some (profitOf c l)
+      -- the outputs of a list that keeps the rules, p(0) among them, are within the limit
+      within : T (keeps c l) → (k : ℕ) → k ≤ last c → p c l k ≤ mostOutput
+      within t zero h = omega (arith, p-zero c l, initial-le c lim, lim .capacity-le)
+      within t (suc k) h = omega (arith, p-suc c l k, output-le c lim l t k h, lim .capacity-le)
+
+      outcome-of-keeps : T (keeps c l) → Outcome ≡ some (profitBy cost c l)
       outcome-of-keeps t =
           let (n, q, r) = keeps-runs c l lim .0 t in
-          let gain = runs-profit c lim l 0 start (omega arith) good-first r in
-          subst (λ k. outcome (machine (unitOf c) (termsOf c)) 0 k (image c start) l ≡ some (profitOf c l)) n
+          let gain = runs-profit c lim rates costs l 0 start (omega arith) good-first r in
+          subst
+          (λ k. outcome (machine (unitOf c) (termsOf c rates costs)) 0 k (image c start) l ≡ some (profitBy cost c l)) n
           (gain
-          ∙ ap (λ q. some (profitFrom c 0 q l)) output-first
-          ∙ ap some (profitFrom-profitOf c lim l n))
+          ∙ ap (λ q. some (profitFrom c rates costs 0 q l)) output-first
+          ∙ ap some (profitFrom-profitBy c lim pays l (within t) n))
 
       keeps-of-outcome : (v : ℤ) → Outcome ≡ some v → T (keeps c l)
       keeps-of-outcome v e =
-          let (r, n) = runs-of-earned c lim l (last c) 0 start v (omega arith) good-first e in
+          let (r, n) = runs-of-earned c lim rates costs l (last c) 0 start v (omega arith) good-first e in
           keeps-runs c l lim .1 (n, late, r)
 
-      pub outcome-earned : outcome (machine (unitOf c) (termsOf c)) 0 (last c) (openingOf c) l
-          ≡ earned (keeps c) (profitOf c) l
+      pub outcome-earned : outcome (machine (unitOf c) (termsOf c rates costs)) 0 (last c) (openingOf c) l
+          ≡ earned (keeps c) (profitBy cost c) l
       outcome-earned =
-          subst (λ s. outcome (machine (unitOf c) (termsOf c)) 0 (last c) s l ≡ earned (keeps c) (profitOf c) l)
+          subst
+          (λ s. outcome (machine (unitOf c) (termsOf c rates costs)) 0 (last c) s l
+          ≡ earned (keeps c) (profitBy cost c) l)
           image-first
           (go (keeps c l) refl Outcome refl)
         where
           go : (t : Bool) → keeps c l ≡ t → (x : Option ℤ)
-              → outcome (machine (unitOf c) (termsOf c)) 0 (last c) (image c start) l ≡ x
-              → x ≡ cond t (some (profitOf c l)) none
+              → outcome (machine (unitOf c) (termsOf c rates costs)) 0 (last c) (image c start) l ≡ x
+              → x ≡ cond t (some (profitBy cost c l)) none
           go true e x d = sym d ∙ outcome-of-keeps (true→T (keeps c l) e)
           go false e none d = refl
           go false e (some v) d = absurd (false→not (keeps c l) e (keeps-of-outcome v d))
