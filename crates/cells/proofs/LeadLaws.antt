@@ -6,13 +6,14 @@ use mathlib.Core.Bool.{Bool, true, false, cond}
 use mathlib.Core.List.{List}
 use Prim.Native.Nat.{ℕ, suc, _+_, _-_, _≤_, _<_}
 use native.Mathlib.Omega.{arith}
-use lib.IntN.{ℤ, pos, natAbs, _+ℤ_}
+use lib.IntN.{ℤ, pos, natAbs, _+ℤ_, _-ℤ_}
 use lib.ListN.{getD}
 use lib.Signed.{ltZ, _≤ℤ_}
 use Rattle.laws.proofs.Signed.{linear, up, down}
 use Rattle.laws.proofs.Magnitude.{abs-parts}
-use Rattle.machine.specs.Bounds.{mostLine, mostOffer}
+use Rattle.machine.specs.Bounds.{mostLoaded, mostOffer}
 use Rattle.machine.specs.Search.{Choice}
+use Rattle.machine.specs.Moves.{costAt}
 use Rattle.machine.specs.Span.{nothing, pick, lone, span}
 use Rattle.window.specs.Rows.{sloped, threshold}
 use Rattle.window.proofs.DriftLaws.{Drifted, lost, kept, drifted-add}
@@ -62,18 +63,18 @@ leads-some (behind k h) e = absurd (omega (linear, e, h))
 leads-some (leading q v h) e = refl
 
 -- the outputs from a to before p, and then p
-module _ (f : ℕ → Option ℤ) (xs : List ℤ) (lo a b : ℕ) (first slope : ℤ) where
-  pub scan-start : (p : ℕ) → p ≡ a → Leads (span (onLine f a first slope) a (p - a)) noPick
+module _ (f : ℕ → Option ℤ) (xs costs : List ℤ) (lo r a b : ℕ) (first slope : ℤ) where
+  pub scan-start : (p : ℕ) → p ≡ a → Leads (span (onLine f costs r a first slope) a (p - a)) noPick
   unfolding span
   scan-start p e = let d : p - a ≡ 0 = omega arith in rw d leads-start
 
-  pub scan-step : (p : ℕ) (k : Pick) (g y : ℤ) → Held f xs lo a b → a ≤ p → p < b → g ≡ sloped first slope (p - a)
-      → natAbs g ≤ mostLine → y ≡ g +ℤ getD xs (p - lo) (pos 0) → Leads (span (onLine f a first slope) a (p - a)) k
-      → Leads (span (onLine f a first slope) a (p + 1 - a)) (betterPick k (pickAt p y))
+  pub scan-step : (p : ℕ) (k : Pick) (g y : ℤ) → Held f xs lo a b → a ≤ p → p < b → g ≡ sloped first slope (p - a) -ℤ costAt costs (r + p)
+      → natAbs g ≤ mostLoaded → y ≡ g +ℤ getD xs (p - lo) (pos 0) → Leads (span (onLine f costs r a first slope) a (p - a)) k
+      → Leads (span (onLine f costs r a first slope) a (p + 1 - a)) (betterPick k (pickAt p y))
   unfolding span
   scan-step p k g y held ha hb eg small ey l =
       let n : p + 1 - a ≡ suc (p - a) = omega arith in
       let here : a + (p - a) ≡ p = omega arith in
-      let d : Drifted (onLine f a first slope p) y =
+      let d : Drifted (onLine f costs r a first slope p) y =
       rw (ey, held .at p ha hb, ← eg) (drifted-add g small (held .size p ha hb)) in
       rw (n, here) (leads-step p l d)

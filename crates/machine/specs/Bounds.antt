@@ -30,12 +30,15 @@ abbrev pub mostWorth : ℕ
 mostWorth = mostHours * mostEarned
 
 -- half-mills: a line, which begins with what an hour earns and grows by a margin from output to output; an amount on it
--- with what the hours of a day earn
+-- less an entry of a table; that with what the hours of a day earn
 abbrev pub mostLine : ℕ
 mostLine = mostEarned + mostMargin * mostOutput
 
+abbrev pub mostLoaded : ℕ
+mostLoaded = mostLine + mostCost
+
 abbrev pub mostOffer : ℕ
-mostOffer = mostLine + mostWorth
+mostOffer = mostLoaded + mostWorth
 
 -- the size of the number that stands for no amount; and a size between the two: whatever a line adds, an amount stays
 -- smaller, and that number larger

@@ -12,7 +12,7 @@ use Rattle.laws.specs.Range.{larger, over}
 use Rattle.laws.proofs.RangeLaws.{larger-least, larger-of-ge, larger-of-le}
 use Rattle.laws.proofs.Signed.{linear, up, down, parts-+}
 use Rattle.laws.proofs.Magnitude.{abs-parts, abs-+}
-use Rattle.machine.specs.Bounds.{mostWorth, mostLine, mostOffer}
+use Rattle.machine.specs.Bounds.{mostWorth, mostLoaded, mostOffer}
 use Rattle.machine.specs.Search.{ahead, add, Choice}
 use Rattle.machine.specs.Span.{pick, lone, span}
 use Rattle.machine.specs.Coded.{missing, coded, Bounded, gone, amount}
@@ -23,8 +23,8 @@ pub data Drifted : Option ℤ → ℤ → Type 0 where
   lost : (z : ℤ) → z ≤ℤ threshold → Drifted none z
   kept : (v : ℤ) → natAbs v ≤ mostOffer → Drifted (some v) v
 
--- a line's amount is added
-pub drifted-add : {x : Option ℤ} (g : ℤ) → natAbs g ≤ mostLine → Bounded mostWorth x → Drifted (add g x) (g +ℤ coded x)
+-- a line's amount is added, less an entry of a table
+pub drifted-add : {x : Option ℤ} (g : ℤ) → natAbs g ≤ mostLoaded → Bounded mostWorth x → Drifted (add g x) (g +ℤ coded x)
 unfolding up down
 drifted-add g h gone = lost (g +ℤ missing) (omega (linear, parts-+ g missing, abs-parts g))
 drifted-add g h (amount {v} w) = kept (g +ℤ v) (omega (arith, abs-+ g v))
