@@ -1,10 +1,10 @@
 """Finds limits, sizes and bounds that stand as literals in crates/ where their names should.
 
 A limit of document 01 has one name in crates/model/src/lib.rt and one in its specs/Limits, a width of a file one in its
-specs/Forms, a bound of a sum one in crates/machine/specs/Bounds; a size is derived from them by formula. The second
-views of model/specs, Days, Promises and the program known_days hold the published numbers on purpose. A number
-that is a limit in one place and a rule's or a refusal's number in another counts only after a comparison, where it
-bounds something.
+specs/Forms, a bound of a sum one in crates/machine/specs/Bounds; those of a curve and of a float's pattern have theirs
+in crates/curve; a size is derived from them by formula. The second views of model/specs, Days, the Promises and the
+program known_days hold the published numbers on purpose. A number that is a limit in one place and a rule's or a
+refusal's number in another counts only after a comparison, where it bounds something.
 """
 
 import pathlib
@@ -14,14 +14,15 @@ import sys
 ROOT = pathlib.Path(__file__).resolve().parents[2]
 
 NAMED = ("model/src/lib.rt", "model/specs/Limits.antt", "model/specs/Forms.antt", "machine/specs/Bounds.antt")
+NAMED += ("curve/src/lib.rt", "curve/specs/Pattern.antt", "curve/specs/Cost.antt")
 VIEWS = tuple(f"model/specs/{name}.antt" for name in ("Published", "Windows", "Words", "Days", "Promises"))
-VIEWS += ("model/proofs/Days.antt", "known_days/src/main.rt")
+VIEWS += ("curve/specs/Promises.antt", "model/proofs/Days.antt", "known_days/src/main.rt")
 # what stands for something else: the number of a refusal, the size of a 64-bit number
 NUMBERED = {"laws/proofs/Magnitude.antt": ["2 ^ 63"]}
 
-# hours, megawatts, working numbers, bytes, mills; sizes of the search, of the check and of the text
+# hours, megawatts, working numbers, bytes, mills, energies; sizes of the search, of the check and of the text
 ALWAYS = [25, 48, 49, 56, 63, 64, 144, 400, 796, 2800, 4096, 4097, 6400, 8192, 8784, 10000, 65535, 65536]
-ALWAYS += [168, 1000000, 9999999, 10000000, 11000000, 100000000, 600000000]
+ALWAYS += [168, 800, 801, 1000000, 9999999, 10000000, 11000000, 100000000, 600000000, 640801000000]
 ALWAYS += [2147483647, 2147483648, 4294967295, 4294967296]
 # stages, minimum times, offsets and their sums
 BOUNDS = [7, 8, 9, 15, 16, 17, 20, 32, 34, 52, 54]

@@ -1,0 +1,19 @@
+-- Laws of the costs of a curve, from the rounding of a fraction up, and the promises.
+pub mod NearestLaws
+pub mod PatternLaws
+pub mod SignLaws
+pub mod RoundLaws
+pub mod KeptLaws
+pub mod SumLaws
+pub mod AmountLaws
+pub mod AllowedLaws
+pub mod CostLaws
+pub mod WholeLaws
+pub mod SuppliedLaws
+pub mod FirstsLaws
+pub mod RecordLaws
+pub mod NearLaws
+pub mod CloseLaws
+pub mod BendLaws
+pub mod TableLaws
+pub mod Promises
