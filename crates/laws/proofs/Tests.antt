@@ -57,6 +57,10 @@ pub true→T : (a : Bool) → a ≡ true → T a
 true→T true e = tt
 true→T false e = absurd (false≢true e)
 
+pub not→false : (a : Bool) → (T a → ⊥) → a ≡ false
+not→false true h = absurd (h tt)
+not→false false h = refl
+
 pub false→not : (a : Bool) → a ≡ false → T a → ⊥
 false→not true e t = false≢true (sym e)
 false→not false e t = t

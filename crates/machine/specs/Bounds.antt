@@ -1,19 +1,19 @@
 -- How large the numbers of a search and of a profit can get, each with what it bounds. Definitions only. Assumes
 -- nothing.
 use Prim.Native.Nat.{ℕ, _+_, _*_, _^_}
+use Rattle.curve.specs.Cost as cost
 use Rattle.model.specs.Limits.{mostHours, mostOutput, mostVariable, mostCharge, mostPrice, words}
 
 -- megawatts: the outputs at the two ends of an hour together, the first being at most a ramp above the second
 abbrev pub mostEnds : ℕ
 mostEnds = 3 * mostOutput
 
--- half-megawatt-hours: the energy of an hour within the capacity
+-- those of a table of costs (request F-7): half-megawatt-hours of an hour, and half-mills of an entry
 abbrev pub mostEnergy : ℕ
-mostEnergy = 2 * mostOutput
+mostEnergy = cost.mostEnergy
 
--- half-mills: an entry of a table of what an hour costs by its energy (request F-7)
 abbrev pub mostCost : ℕ
-mostCost = 640801000000
+mostCost = cost.mostCost
 
 -- half-mills: what a half-megawatt-hour earns or loses; what an on-line hour, a start or a stop costs
 abbrev pub mostMargin : ℕ

@@ -43,7 +43,7 @@ carried earned sold f a b d s f′ a′ b′ d′ e =
     )
 
 -- twice a sum, so many times an amount
-twice-+ : (a : ℤ) (m n : ℕ) → a *ℤ pos (2 * (m + n)) ≡ a *ℤ pos (2 * m) +ℤ a *ℤ pos (2 * n)
+pub twice-+ : (a : ℤ) (m n : ℕ) → a *ℤ pos (2 * (m + n)) ≡ a *ℤ pos (2 * m) +ℤ a *ℤ pos (2 * n)
 twice-+ a m n = let e : 2 * (m + n) ≡ 2 * m + 2 * n = omega arith in rw e (multiple-+ a (2 * m) (2 * n))
 
 none-of : (a : ℤ) → a *ℤ pos 0 ≡ pos 0

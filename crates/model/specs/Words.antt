@@ -149,6 +149,14 @@ earned c m =
     +ℤ (c .fixed .0 *ℤ pos (2 * sum (online c m) (c .hours))
     +ℤ (c .startcost .0 *ℤ pos (2 * sum (m .y) (c .hours)) +ℤ c .stopcost .0 *ℤ pos (2 * sum (m .z) (c .hours)))))
 
+-- the same by what an hour costs at its energy: the cost of every hour, less that of no energy for those off-line
+abbrev pub earnedAt : (ℕ → ℤ) → Case → Marking → ℤ
+earnedAt cost c m =
+    sumℤ (λ k. priced (c .prices) k *ℤ pos (m .p k + m .p (k - 1))) (c .hours)
+    -ℤ ((sumℤ (λ k. cost (m .p k + m .p (k - 1))) (c .hours)
+    -ℤ cost 0 *ℤ pos (c .hours - sum (online c m) (c .hours)))
+    +ℤ (c .startcost .0 *ℤ pos (2 * sum (m .y) (c .hours)) +ℤ c .stopcost .0 *ℤ pos (2 * sum (m .z) (c .hours))))
+
 -- the first breach is that of rule n at hour k: no rule is broken earlier, none of a lower number then, and that one is
 pub record Breaks (c : Case) (m : Marking) (k n : ℕ) : Type 0 where
   pub inside : k < c .hours + c .falls
