@@ -9,7 +9,7 @@ use lib.ListN.{length}
 use lib.IntN.{ℤ}
 use Rattle.machine.specs.Lengths.{rowLength, placeLength, keptLength}
 use Rattle.machine.specs.declared.Unit.{Unit}
-use Rattle.machine.specs.declared.Terms.{Terms}
+use Rattle.machine.specs.Moves.{Tariff}
 use Rattle.machine.specs.Moves.{worth}
 use Rattle.cells.specs.Table.{cellsOf}
 use Rattle.slots.specs.Saved.{SavedAt, Kept}
@@ -17,7 +17,7 @@ use Rattle.slots.proofs.Slots.{saved-at-same}
 use Rattle.locks.proofs.LockedLaws.{locked-from}
 use Rattle.kept.specs.Held.{Spanned, Holds, Free}
 
-module _ (u : Unit) (day : ℕ → Terms) where
+module _ (u : Unit) (day : ℕ → Tariff) where
   pub spanned-start : (c : ℕ) {xs : List ℤ} → length xs ≡ keptLength → Spanned u day c c xs
   spanned-start c e = record { long = e; at = λ h a l. absurd (omega arith) }
 

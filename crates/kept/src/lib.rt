@@ -30,6 +30,7 @@ pub fn fill(
     charges: Charges,
     margins: &[i64],
     orders: &[u8],
+    costs: &[i64],
     k: Hour,
     b: Hour,
     l: Hour,
@@ -39,13 +40,13 @@ pub fn fill(
     kept: &mut [i64; KEPT],
 ) -> Hour
     requires { ⌜ Fit u ⌝ }
-    requires { ⌜ Day u (now margins) (now orders) charges ⌝ }
+    requires { ⌜ Day u (now margins) (now orders) charges (now costs) ⌝ }
     requires { ⌜ (k .0 ≤ b .0) × (b .0 ≤ u .hours .0) × (Slotted u (l .0) n (length (now work))) ⌝ }
-    requires { ⌜ (Entries u (dayOf (now margins) (now orders) charges) 0 (now entries))
-        × (Saved u (dayOf (now margins) (now orders) charges) (l .0) n 0 (now work)) ⌝ }
+    requires { ⌜ (Entries u (dayOf (now margins) (now orders) charges (now costs)) 0 (now entries))
+        × (Saved u (dayOf (now margins) (now orders) charges (now costs)) (l .0) n 0 (now work)) ⌝ }
     requires { ⌜ length (now kept) ≡ keptLength ⌝ }
     ensures { λ r. ⌜ (r .0 ≡ min (b .0) (k .0 + mostPlaces))
-        × (Spanned u (dayOf (now (margins .entry)) (now (orders .entry)) charges) (k .0) (r .0) (now (kept .exit))) ⌝ }
+        × (Spanned u (dayOf (now (margins .entry)) (now (orders .entry)) charges (now (costs .entry))) (k .0) (r .0) (now (kept .exit))) ⌝ }
 {
     let to = b.least(Hour(k.0 + PLACES as u16));
     let mut row = [0i64; ROW];
@@ -55,6 +56,7 @@ pub fn fill(
         charges,
         margins,
         orders,
+        costs,
         to,
         l,
         n,
@@ -66,7 +68,7 @@ pub fn fill(
     let mut h = to;
     while k.0 < h.0 {
         h = Hour(h.0 - 1);
-        layers::step_hour(u, charges, margins, orders, h, entries, &mut row, &mut side);
+        layers::step_hour(u, charges, margins, orders, costs, h, entries, &mut row, &mut side);
         let at = (to.0 - h.0 - 1) as usize;
         slots::save_layer(u, at * PLACE, &row, &side, kept);
     }
@@ -79,6 +81,7 @@ pub fn keep_rows(
     charges: Charges,
     margins: &[i64],
     orders: &[u8],
+    costs: &[i64],
     k: Hour,
     b: Hour,
     held: Held,
@@ -89,13 +92,13 @@ pub fn keep_rows(
     kept: &mut [i64; KEPT],
 ) -> Held
     requires { ⌜ Fit u ⌝ }
-    requires { ⌜ Day u (now margins) (now orders) charges ⌝ }
+    requires { ⌜ Day u (now margins) (now orders) charges (now costs) ⌝ }
     requires { ⌜ (k .0 < b .0) × (b .0 ≤ u .hours .0) × (Slotted u (l .0) n (length (now work))) ⌝ }
-    requires { ⌜ (Entries u (dayOf (now margins) (now orders) charges) 0 (now entries))
-        × (Saved u (dayOf (now margins) (now orders) charges) (l .0) n 0 (now work)) ⌝ }
-    requires { ⌜ Holds u (dayOf (now margins) (now orders) charges) (k .0) (held .end .0) (held .to .0) (now kept) ⌝ }
+    requires { ⌜ (Entries u (dayOf (now margins) (now orders) charges (now costs)) 0 (now entries))
+        × (Saved u (dayOf (now margins) (now orders) charges (now costs)) (l .0) n 0 (now work)) ⌝ }
+    requires { ⌜ Holds u (dayOf (now margins) (now orders) charges (now costs)) (k .0) (held .end .0) (held .to .0) (now kept) ⌝ }
     ensures { λ r. ⌜ (r .end .0 ≡ b .0) × (k .0 < r .to .0)
-        × (Holds u (dayOf (now (margins .entry)) (now (orders .entry)) charges) (k .0) (r .end .0) (r .to .0)
+        × (Holds u (dayOf (now (margins .entry)) (now (orders .entry)) charges (now (costs .entry))) (k .0) (r .end .0) (r .to .0)
         (now (kept .exit))) ⌝ }
 {
     if held.end.0 == b.0 {
@@ -103,7 +106,7 @@ pub fn keep_rows(
             return held;
         }
     }
-    locks::fill(u, charges, margins, orders, k, b, l, n, entries, work, kept)
+    locks::fill(u, charges, margins, orders, costs, k, b, l, n, entries, work, kept)
 }
 
 // The layers from hour k on, unless they are there, hour k has a slot or the day is over.
@@ -112,6 +115,7 @@ pub fn keep_layers(
     charges: Charges,
     margins: &[i64],
     orders: &[u8],
+    costs: &[i64],
     k: Hour,
     held: Held,
     l: Hour,
@@ -121,14 +125,14 @@ pub fn keep_layers(
     kept: &mut [i64; KEPT],
 ) -> Held
     requires { ⌜ Fit u ⌝ }
-    requires { ⌜ Day u (now margins) (now orders) charges ⌝ }
+    requires { ⌜ Day u (now margins) (now orders) charges (now costs) ⌝ }
     requires { ⌜ (k .0 ≤ u .hours .0) × (Slotted u (l .0) n (length (now work))) ⌝ }
-    requires { ⌜ (Entries u (dayOf (now margins) (now orders) charges) 0 (now entries))
-        × (Saved u (dayOf (now margins) (now orders) charges) (l .0) n 0 (now work)) ⌝ }
-    requires { ⌜ Holds u (dayOf (now margins) (now orders) charges) (k .0) (held .end .0) (held .to .0) (now kept) ⌝ }
-    ensures { λ r. ⌜ (Free u (dayOf (now (margins .entry)) (now (orders .entry)) charges) (l .0) (k .0) (r .to .0)
+    requires { ⌜ (Entries u (dayOf (now margins) (now orders) charges (now costs)) 0 (now entries))
+        × (Saved u (dayOf (now margins) (now orders) charges (now costs)) (l .0) n 0 (now work)) ⌝ }
+    requires { ⌜ Holds u (dayOf (now margins) (now orders) charges (now costs)) (k .0) (held .end .0) (held .to .0) (now kept) ⌝ }
+    ensures { λ r. ⌜ (Free u (dayOf (now (margins .entry)) (now (orders .entry)) charges (now (costs .entry))) (l .0) (k .0) (r .to .0)
         (now (kept .exit)))
-        × (Holds u (dayOf (now (margins .entry)) (now (orders .entry)) charges) (k .0) (r .end .0) (r .to .0)
+        × (Holds u (dayOf (now (margins .entry)) (now (orders .entry)) charges (now (costs .entry))) (k .0) (r .end .0) (r .to .0)
         (now (kept .exit))) ⌝ }
 {
     if held.end.0 == 0 {
@@ -146,6 +150,7 @@ pub fn keep_layers(
         charges,
         margins,
         orders,
+        costs,
         k,
         base,
         l,
@@ -163,6 +168,7 @@ pub fn keep(
     charges: Charges,
     margins: &[i64],
     orders: &[u8],
+    costs: &[i64],
     k: Hour,
     s: State,
     held: Held,
@@ -173,15 +179,15 @@ pub fn keep(
     kept: &mut [i64; KEPT],
 ) -> Held
     requires { ⌜ Fit u ⌝ }
-    requires { ⌜ Day u (now margins) (now orders) charges ⌝ }
+    requires { ⌜ Day u (now margins) (now orders) charges (now costs) ⌝ }
     requires { ⌜ (k .0 < u .hours .0) × (Slotted u (l .0) n (length (now work))) × (Proper u s) ⌝ }
-    requires { ⌜ (Entries u (dayOf (now margins) (now orders) charges) 0 (now entries))
-        × (Saved u (dayOf (now margins) (now orders) charges) (l .0) n 0 (now work)) ⌝ }
-    requires { ⌜ Holds u (dayOf (now margins) (now orders) charges) (suc (k .0)) (held .end .0) (held .to .0)
+    requires { ⌜ (Entries u (dayOf (now margins) (now orders) charges (now costs)) 0 (now entries))
+        × (Saved u (dayOf (now margins) (now orders) charges (now costs)) (l .0) n 0 (now work)) ⌝ }
+    requires { ⌜ Holds u (dayOf (now margins) (now orders) charges (now costs)) (suc (k .0)) (held .end .0) (held .to .0)
         (now kept) ⌝ }
-    ensures { λ r. ⌜ (Ready u (dayOf (now (margins .entry)) (now (orders .entry)) charges) (l .0) (k .0) (lockOf s)
+    ensures { λ r. ⌜ (Ready u (dayOf (now (margins .entry)) (now (orders .entry)) charges (now (costs .entry))) (l .0) (k .0) (lockOf s)
         (r .to .0) (now (kept .exit)))
-        × (Holds u (dayOf (now (margins .entry)) (now (orders .entry)) charges) (suc (k .0)) (r .end .0) (r .to .0)
+        × (Holds u (dayOf (now (margins .entry)) (now (orders .entry)) charges (now (costs .entry))) (suc (k .0)) (r .end .0) (r .to .0)
         (now (kept .exit))) ⌝ }
 {
     let b = locks::end_of(u, k, s);
@@ -192,6 +198,7 @@ pub fn keep(
             charges,
             margins,
             orders,
+            costs,
             after,
             b,
             held,
@@ -207,6 +214,7 @@ pub fn keep(
         charges,
         margins,
         orders,
+        costs,
         after,
         held,
         l,

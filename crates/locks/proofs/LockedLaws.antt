@@ -14,7 +14,7 @@ use Rattle.laws.specs.Placed.{Part}
 use Rattle.model.specs.Limits.{mostTime}
 use Rattle.machine.specs.Lengths.{placeLength, keptLength}
 use Rattle.machine.specs.declared.Unit.{Unit}
-use Rattle.machine.specs.declared.Terms.{Terms}
+use Rattle.machine.specs.Moves.{Tariff}
 use Rattle.machine.specs.declared.State.{State}
 use Rattle.machine.specs.declared.State.the-variants.{Off, Rise, Run, Fall}
 use Rattle.machine.specs.Proper.{Proper}
@@ -34,7 +34,7 @@ lock-small u (Fall i) p = omega arith
 pub row-few : {u : Unit} {w : Worths} {j m n : ℕ} {xs : List ℤ} → m ≡ n → Row u w j m xs → Row u w j n xs
 row-few {u} {w} {j} {m} {n} {xs} e r = subst (λ i. Row u w j i xs) e r
 
-module _ (u : Unit) (day : ℕ → Terms) where
+module _ (u : Unit) (day : ℕ → Tariff) where
   -- where a lock ends there are no hours to go, or any where the day ends
   pub lock-start : (b j : ℕ) {n : ℕ} {xs : List ℤ} → b ≡ lockEnd u b j → Row u (worth u day b) 0 n xs
       → Row u (worth u day b) j n xs

@@ -6,7 +6,7 @@ use lib.ListN.{length}
 use lib.IntN.{ℤ}
 use Rattle.machine.specs.Lengths.{placeLength, keptLength}
 use Rattle.machine.specs.declared.Unit.{Unit}
-use Rattle.machine.specs.declared.Terms.{Terms}
+use Rattle.machine.specs.Moves.{Tariff}
 use Rattle.machine.specs.Moves.{worth}
 use Rattle.slots.specs.Saved.{RowAt}
 
@@ -16,6 +16,6 @@ lockEnd u k j = min (k + j) (u .hours .0)
 
 -- the rows of a lock that ends at hour b, of the hours from a to before c: each in the place that its distance from c
 -- gives
-pub record Locked (u : Unit) (day : ℕ → Terms) (a c b : ℕ) (xs : List ℤ) : Type 0 where
+pub record Locked (u : Unit) (day : ℕ → Tariff) (a c b : ℕ) (xs : List ℤ) : Type 0 where
   pub long : length xs ≡ keptLength
   pub at : (h j : ℕ) → a ≤ h → h < c → b ≡ lockEnd u h j → RowAt u (worth u day h) j ((c - h - 1) * placeLength) xs

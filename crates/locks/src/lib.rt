@@ -56,6 +56,7 @@ pub fn fill(
     charges: Charges,
     margins: &[i64],
     orders: &[u8],
+    costs: &[i64],
     k: Hour,
     b: Hour,
     l: Hour,
@@ -65,13 +66,13 @@ pub fn fill(
     kept: &mut [i64; KEPT],
 ) -> Held
     requires { ⌜ Fit u ⌝ }
-    requires { ⌜ Day u (now margins) (now orders) charges ⌝ }
+    requires { ⌜ Day u (now margins) (now orders) charges (now costs) ⌝ }
     requires { ⌜ (k .0 ≤ b .0) × (b .0 ≤ u .hours .0) × (Slotted u (l .0) n (length (now work))) ⌝ }
-    requires { ⌜ (Entries u (dayOf (now margins) (now orders) charges) 0 (now entries))
-        × (Saved u (dayOf (now margins) (now orders) charges) (l .0) n 0 (now work)) ⌝ }
+    requires { ⌜ (Entries u (dayOf (now margins) (now orders) charges (now costs)) 0 (now entries))
+        × (Saved u (dayOf (now margins) (now orders) charges (now costs)) (l .0) n 0 (now work)) ⌝ }
     requires { ⌜ length (now kept) ≡ keptLength ⌝ }
     ensures { λ r. ⌜ (r .end .0 ≡ b .0) × (r .to .0 ≡ min (b .0) (k .0 + mostPlaces))
-        × (Locked u (dayOf (now (margins .entry)) (now (orders .entry)) charges) (k .0) (r .to .0) (b .0)
+        × (Locked u (dayOf (now (margins .entry)) (now (orders .entry)) charges (now (costs .entry))) (k .0) (r .to .0) (b .0)
         (now (kept .exit))) ⌝ }
 {
     let to = b.least(Hour(k.0 + PLACES as u16));
@@ -82,6 +83,7 @@ pub fn fill(
         charges,
         margins,
         orders,
+        costs,
         b,
         l,
         n,
@@ -91,11 +93,11 @@ pub fn fill(
         &mut side,
     );
     let wide = rows::cells_of(u);
-    rows::lock_down(u, charges, margins, orders, to, b.less(to), wide, &mut row);
+    rows::lock_down(u, charges, margins, orders, costs, to, b.less(to), wide, &mut row);
     let mut h = to;
     while k.0 < h.0 {
         h = Hour(h.0 - 1);
-        rows::lock_hour(u, charges, margins, orders, h, wide, &mut row);
+        rows::lock_hour(u, charges, margins, orders, costs, h, wide, &mut row);
         let at = (to.0 - h.0 - 1) as usize;
         put(kept, at * PLACE, &row, wide);
     }

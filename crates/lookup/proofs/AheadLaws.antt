@@ -8,7 +8,7 @@ use lib.Seq.{getD-take, getD-drop}
 use lib.IntN.{ℤ, pos}
 use Rattle.machine.specs.Lengths.{sideLength}
 use Rattle.machine.specs.declared.Unit.{Unit}
-use Rattle.machine.specs.declared.Terms.{Terms}
+use Rattle.machine.specs.Moves.{Tariff}
 use Rattle.machine.specs.Moves.{worth, Worths}
 use Rattle.machine.specs.Fit.{Fit, Fair}
 use Rattle.cells.specs.Table.{Sized, Row, Side, SideCell, Ahead, cellsOf}
@@ -17,7 +17,7 @@ use Rattle.slots.specs.Saved.{RowAt, SavedAt}
 use Rattle.slots.proofs.Slots.{cells-side}
 
 -- the end of the day
-pub ahead-end : (u : Unit) (day : ℕ → Terms) → Fit u → ((k : ℕ) → Fair (day k)) → (j : ℕ) {xs ys : List ℤ}
+pub ahead-end : (u : Unit) (day : ℕ → Tariff) → Fit u → ((k : ℕ) → Fair (day k)) → (j : ℕ) {xs ys : List ℤ}
     → Row u (worth u day (u .hours .0)) (j - 1) (cellsOf u) xs → Side u (worth u day (u .hours .0)) ys
     → Ahead u (worth u day (u .hours .0)) j xs ys
 ahead-end u day fit fair j row side =

@@ -10,7 +10,7 @@ use lib.ListN.{length, getD}
 use lib.IntN.{ℤ, pos}
 use Rattle.laws.specs.Placed.{Part}
 use Rattle.machine.specs.declared.Unit.{Unit}
-use Rattle.machine.specs.declared.Terms.{Terms}
+use Rattle.machine.specs.Moves.{Tariff}
 use Rattle.machine.specs.Moves.{worth, Worths}
 use Rattle.machine.specs.Fit.{Fit}
 use Rattle.window.specs.Rows.{Written}
@@ -112,7 +112,7 @@ module _ (l k : ℕ) (some : 1 ≤ l) where
 pub slotted-in : {u : Unit} {l n a b : ℕ} → a ≡ b → Slotted u l n a → Slotted u l n b
 slotted-in {u} {l} {n} e s = subst (Slotted u l n) e s
 
-module _ (u : Unit) (l n : ℕ) {m : ℕ} (slots : Slotted u l n m) (day : ℕ → Terms) where
+module _ (u : Unit) (l n : ℕ) {m : ℕ} (slots : Slotted u l n m) (day : ℕ → Tariff) where
   pub saved-start : {xs : List ℤ} → Saved u day l n (u .hours .0) xs
   saved-start = record { at = λ s a b. absurd (omega arith) }
 

@@ -7,7 +7,7 @@ use lib.IntN.{ℤ, pos}
 use Rattle.model.specs.Limits.{longWork}
 use Rattle.machine.specs.Coded.{coded}
 use Rattle.machine.specs.declared.Unit.{Unit}
-use Rattle.machine.specs.declared.Terms.{Terms}
+use Rattle.machine.specs.Moves.{Tariff}
 use Rattle.machine.specs.Moves.{running, worth, Worths}
 use Rattle.cells.specs.Table.{SideCell, Layer, cellsOf}
 use Rattle.machine.specs.Lengths.{sideLength}
@@ -41,11 +41,11 @@ abbrev pub slotFrom : ℕ → ℕ → ℕ
 slotFrom l k = (k + l - 1) / l
 
 -- every l-th layer from hour a on, each in its slot
-pub record Saved (u : Unit) (day : ℕ → Terms) (l n a : ℕ) (xs : List ℤ) : Type 0 where
+pub record Saved (u : Unit) (day : ℕ → Tariff) (l n a : ℕ) (xs : List ℤ) : Type 0 where
   pub at : (s : ℕ) → a ≤ s * l → s * l < u .hours .0 → SavedAt u (worth u day (s * l)) (s * n) xs
 
 -- a layer at hour h, not before hour k
-pub record Based (u : Unit) (day : ℕ → Terms) (k h : ℕ) (xs ys : List ℤ) : Type 0 where
+pub record Based (u : Unit) (day : ℕ → Tariff) (k h : ℕ) (xs ys : List ℤ) : Type 0 where
   pub from : k ≤ h
   pub to : h ≤ u .hours .0
   pub layer : Layer u (worth u day h) xs ys

@@ -6,7 +6,6 @@ use machine::Charges;
 use machine::ENTRIES;
 use machine::ROW;
 use machine::SIDE;
-use machine::Terms;
 use machine::Unit;
 use model::Hour;
 ghost use mathlib.Core.Path.{_≡_};
@@ -16,7 +15,7 @@ ghost use lib.IntN.{pos};
 ghost use Rattle.laws.specs.Placed.{Part};
 ghost use Rattle.model.specs.Limits.{longWork, words};
 ghost use Rattle.machine.specs.Fit.{Fit};
-ghost use Rattle.machine.specs.Moves.{dayOf, worth, Worths};
+ghost use Rattle.machine.specs.Moves.{Tariff, dayOf, worth, Worths};
 ghost use Rattle.window.specs.Rows.{Written};
 ghost use Rattle.cells.specs.Table.{Entries, Layer, Day, cellsOf};
 ghost use Rattle.machine.specs.Lengths.{sideLength};
@@ -126,7 +125,7 @@ pub fn save_if(
     requires { ⌜ Fit u ⌝ }
     requires { ⌜ (k .0 < u .hours .0) × (Slotted u (l .0) n (length (now work))) ⌝ }
     requires { ⌜ (cellsOf u ≤ length (now row)) × (length (now side) ≡ sideLength) ⌝ }
-    ensures { λ _. ⌜ ((day : ℕ → Terms) → Layer u (worth u day (k .0)) (now (row .entry)) (now (side .entry))
+    ensures { λ _. ⌜ ((day : ℕ → Tariff) → Layer u (worth u day (k .0)) (now (row .entry)) (now (side .entry))
         → Saved u day (l .0) n (suc (k .0)) (now (work .entry)) → Saved u day (l .0) n (k .0) (now (work .exit))) ⌝ }
 {
     let slot = slot_from(k, l);
@@ -148,7 +147,7 @@ pub fn base_layer(
     requires { ⌜ Fit u ⌝ }
     requires { ⌜ (k .0 ≤ u .hours .0) × (Slotted u (l .0) n (length (now work))) ⌝ }
     requires { ⌜ (cellsOf u ≤ length (now row)) × (length (now side) ≡ sideLength) ⌝ }
-    ensures { λ h. ⌜ ((day : ℕ → Terms) → Saved u day (l .0) n 0 (now (work .entry))
+    ensures { λ h. ⌜ ((day : ℕ → Tariff) → Saved u day (l .0) n 0 (now (work .entry))
         → Based u day (k .0) (h .0) (now (row .exit)) (now (side .exit))) ⌝ }
 {
     let slot = slot_from(k, l);
@@ -167,6 +166,7 @@ pub fn descend(
     charges: Charges,
     margins: &[i64],
     orders: &[u8],
+    costs: &[i64],
     h: Hour,
     k: Hour,
     entries: &[i64; ENTRIES],
@@ -174,16 +174,16 @@ pub fn descend(
     side: &mut [i64; SIDE],
 )
     requires { ⌜ Fit u ⌝ }
-    requires { ⌜ Day u (now margins) (now orders) charges ⌝ }
-    requires { ⌜ (Based u (dayOf (now margins) (now orders) charges) (k .0) (h .0) (now row) (now side))
-        × (Entries u (dayOf (now margins) (now orders) charges) 0 (now entries)) ⌝ }
-    ensures { λ _. ⌜ Layer u (worth u (dayOf (now (margins .entry)) (now (orders .entry)) charges) (k .0))
+    requires { ⌜ Day u (now margins) (now orders) charges (now costs) ⌝ }
+    requires { ⌜ (Based u (dayOf (now margins) (now orders) charges (now costs)) (k .0) (h .0) (now row) (now side))
+        × (Entries u (dayOf (now margins) (now orders) charges (now costs)) 0 (now entries)) ⌝ }
+    ensures { λ _. ⌜ Layer u (worth u (dayOf (now (margins .entry)) (now (orders .entry)) charges (now (costs .entry))) (k .0))
         (now (row .exit)) (now (side .exit)) ⌝ }
 {
     let mut at = h;
     while k.0 < at.0 {
         at = Hour(at.0 - 1);
-        layers::step_hour(u, charges, margins, orders, at, entries, row, side);
+        layers::step_hour(u, charges, margins, orders, costs, at, entries, row, side);
     }
 }
 
@@ -193,6 +193,7 @@ pub fn layer_at(
     charges: Charges,
     margins: &[i64],
     orders: &[u8],
+    costs: &[i64],
     k: Hour,
     l: Hour,
     n: usize,
@@ -202,14 +203,14 @@ pub fn layer_at(
     side: &mut [i64; SIDE],
 )
     requires { ⌜ Fit u ⌝ }
-    requires { ⌜ Day u (now margins) (now orders) charges ⌝ }
+    requires { ⌜ Day u (now margins) (now orders) charges (now costs) ⌝ }
     requires { ⌜ (k .0 ≤ u .hours .0) × (Slotted u (l .0) n (length (now work))) ⌝ }
-    requires { ⌜ (Entries u (dayOf (now margins) (now orders) charges) 0 (now entries))
-        × (Saved u (dayOf (now margins) (now orders) charges) (l .0) n 0 (now work)) ⌝ }
+    requires { ⌜ (Entries u (dayOf (now margins) (now orders) charges (now costs)) 0 (now entries))
+        × (Saved u (dayOf (now margins) (now orders) charges (now costs)) (l .0) n 0 (now work)) ⌝ }
     requires { ⌜ (cellsOf u ≤ length (now row)) × (length (now side) ≡ sideLength) ⌝ }
-    ensures { λ _. ⌜ Layer u (worth u (dayOf (now (margins .entry)) (now (orders .entry)) charges) (k .0))
+    ensures { λ _. ⌜ Layer u (worth u (dayOf (now (margins .entry)) (now (orders .entry)) charges (now (costs .entry))) (k .0))
         (now (row .exit)) (now (side .exit)) ⌝ }
 {
     let h = base_layer(u, k, l, n, work, row, side);
-    descend(u, charges, margins, orders, h, k, entries, row, side);
+    descend(u, charges, margins, orders, costs, h, k, entries, row, side);
 }

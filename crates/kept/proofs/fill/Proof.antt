@@ -5,7 +5,7 @@ use native.Mathlib.Omega.{arith}
 use mathlib.Core.Path.{_≡_, refl}
 use Prim.Native.Nat.{ℕ, suc, _+_, _-_, _≤_, min}
 use Rattle.machine.specs.Moves.{dayOf, worth}
-use Rattle.machine.specs.declared.Terms.{Terms}
+use Rattle.machine.specs.Moves.{Tariff}
 use Rattle.machine.specs.Lengths.{rowLength, mostPlaces}
 use Rattle.cells.specs.Table.{Layer, cellsOf}
 use Rattle.layers.proofs.EntryLaws.{layer-at, entries-from}
@@ -15,12 +15,12 @@ use Rattle.kept.proofs.fill.Statement.{statement}
 use Rattle.kept.proofs.fill.Tie as tie
 
 abbrev Inv-loop : tie.InvT-loop
-Inv-loop u charges margins orders k n entries work kept₀ to row₀ side₀ h₀ kept row side h =
-    (k .0 ≤ h .0) × (h .0 ≤ to .0) × Layer u (worth u (dayOf margins orders charges) (h .0)) row side
-    × Spanned u (dayOf margins orders charges) (h .0) (to .0) kept
+Inv-loop u charges margins orders costs k n entries work kept₀ to row₀ side₀ h₀ kept row side h =
+    (k .0 ≤ h .0) × (h .0 ≤ to .0) × Layer u (worth u (dayOf margins orders charges costs) (h .0)) row side
+    × Spanned u (dayOf margins orders charges costs) (h .0) (to .0) kept
 
 abbrev μ-loop : tie.MeasureT-loop
-μ-loop u charges margins orders k n entries work kept₀ to row₀ side₀ h₀ kept row side h = h .0
+μ-loop u charges margins orders costs k n entries work kept₀ to row₀ side₀ h₀ kept row side h = h .0
 
 -- the places that the proof goes back to: the call, the hour before which the layers end, the loop's head
 abbrev start : tie.After-least Inv-loop μ-loop → tie.Start Inv-loop μ-loop
@@ -35,8 +35,8 @@ head t = t .before .before .before
 abbrev called : tie.Then1 Inv-loop μ-loop → tie.Start Inv-loop μ-loop
 called t = start (bounded (head t))
 
-abbrev day : tie.Start Inv-loop μ-loop → ℕ → Terms
-day s = dayOf (s .args .margins .now) (s .args .orders .now) (s .args .charges)
+abbrev day : tie.Start Inv-loop μ-loop → ℕ → Tariff
+day s = dayOf (s .args .margins .now) (s .args .orders .now) (s .args .charges) (s .args .costs .now)
 
 -- the hour before which the layers end
 limit : (c : tie.After-least Inv-loop μ-loop)

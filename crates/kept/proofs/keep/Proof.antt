@@ -5,7 +5,7 @@ use native.Mathlib.Numerals.{add-one}
 use mathlib.Core.Path.{_≡_, _∙_}
 use Prim.Native.Nat.{ℕ, suc}
 use Rattle.machine.specs.Moves.{dayOf}
-use Rattle.machine.specs.declared.Terms.{Terms}
+use Rattle.machine.specs.Moves.{Tariff}
 use Rattle.kept.proofs.HeldLaws.{free-at, holds-from}
 use Rattle.kept.proofs.keep.Statement.{statement}
 use Rattle.kept.proofs.keep.Tie as tie
@@ -14,8 +14,8 @@ use Rattle.kept.proofs.keep.Tie as tie
 abbrev start : tie.After-next → tie.Start
 start c = c .before .before .before
 
-abbrev day : tie.Start → ℕ → Terms
-day s = dayOf (s .args .margins .now) (s .args .orders .now) (s .args .charges)
+abbrev day : tie.Start → ℕ → Tariff
+day s = dayOf (s .args .margins .now) (s .args .orders .now) (s .args .charges) (s .args .costs .now)
 
 after : (c : tie.After-next) → c .next .result .0 ≡ suc (start c .args .k .0)
 after c = c .next .ensures ∙ add-one (start c .args .k .0)

@@ -17,7 +17,7 @@ start c = c .before .before .before .before
 
 entered : (c : tie.After-value-at) → c .value-at .result .0
     ≡ entry (start c .args .u) (worth (start c .args .u) (dayOf (start c .args .margins .now)
-    (start c .args .orders .now) (start c .args .charges)) (suc (start c .args .k .0)))
+    (start c .args .orders .now) (start c .args .charges) (start c .args .costs .now)) (suc (start c .args .k .0)))
 entered c =
     let s = start c in
     rw add-one at (c .value-at .ensures)
@@ -58,7 +58,7 @@ returns c =
     let v = c .before .before .before .before in
     let s = start v in
     let u = s .args .u in
-    let day = dayOf (s .args .margins .now) (s .args .orders .now) (s .args .charges) in
+    let day = dayOf (s .args .margins .now) (s .args .orders .now) (s .args .charges) (s .args .costs .now) in
     let k = s .args .k .0 in
     layer-hour u day k (s .pre .1 .1 .0)
     (rw (c .before .before .before .terms-at .ensures) at (c .step .ensures (worth u day (suc k))

@@ -5,7 +5,7 @@ use native.Mathlib.Omega.{arith}
 use mathlib.Core.Path.{_≡_, refl, sym}
 use Prim.Native.Nat.{ℕ, suc, _+_, _-_, _≤_, min}
 use Rattle.machine.specs.Moves.{dayOf, worth}
-use Rattle.machine.specs.declared.Terms.{Terms}
+use Rattle.machine.specs.Moves.{Tariff}
 use Rattle.machine.specs.Lengths.{rowLength, mostPlaces}
 use Rattle.cells.specs.Table.{Row, cellsOf}
 use Rattle.locks.specs.Locked.{Locked, lockEnd}
@@ -15,13 +15,13 @@ use Rattle.locks.proofs.fill.Statement.{statement}
 use Rattle.locks.proofs.fill.Tie as tie
 
 abbrev Inv-loop : tie.InvT-loop
-Inv-loop u charges margins orders k b n entries work kept₀ to row₀ wide h₀ kept row h =
+Inv-loop u charges margins orders costs k b n entries work kept₀ to row₀ wide h₀ kept row h =
     (k .0 ≤ h .0) × (h .0 ≤ to .0)
-    × ((j : ℕ) → b .0 ≡ lockEnd u (h .0) j → Row u (worth u (dayOf margins orders charges) (h .0)) j (cellsOf u) row)
-    × Locked u (dayOf margins orders charges) (h .0) (to .0) (b .0) kept
+    × ((j : ℕ) → b .0 ≡ lockEnd u (h .0) j → Row u (worth u (dayOf margins orders charges costs) (h .0)) j (cellsOf u) row)
+    × Locked u (dayOf margins orders charges costs) (h .0) (to .0) (b .0) kept
 
 abbrev μ-loop : tie.MeasureT-loop
-μ-loop u charges margins orders k b n entries work kept₀ to row₀ wide h₀ kept row h = h .0
+μ-loop u charges margins orders costs k b n entries work kept₀ to row₀ wide h₀ kept row h = h .0
 
 -- the places that the proof goes back to: the call, the hour before which the rows end, the cells, the loop's head
 abbrev start : tie.After-least Inv-loop μ-loop → tie.Start Inv-loop μ-loop
@@ -39,8 +39,8 @@ head t = t .before .before .before
 abbrev called : tie.Then1 Inv-loop μ-loop → tie.Start Inv-loop μ-loop
 called t = start (bounded (counted (head t)))
 
-abbrev day : tie.Start Inv-loop μ-loop → ℕ → Terms
-day s = dayOf (s .args .margins .now) (s .args .orders .now) (s .args .charges)
+abbrev day : tie.Start Inv-loop μ-loop → ℕ → Tariff
+day s = dayOf (s .args .margins .now) (s .args .orders .now) (s .args .charges) (s .args .costs .now)
 
 -- the hour before which the rows end
 limit : (c : tie.After-least Inv-loop μ-loop)

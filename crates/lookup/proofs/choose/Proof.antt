@@ -7,7 +7,7 @@ use Prim.Native.Nat.{ℕ, suc, _-_, _*_, _<_}
 use lib.ListN.{getD}
 use lib.IntN.{pos}
 use Rattle.machine.specs.Lengths.{placeLength}
-use Rattle.machine.specs.declared.Terms.{Terms}
+use Rattle.machine.specs.Moves.{Tariff}
 use Rattle.machine.specs.Search.{choiceAt}
 use Rattle.machine.specs.Moves.{dayOf, machine, worth, chosen}
 use Rattle.machine.proofs.Table.Choices.{choice-chosen}
@@ -24,8 +24,8 @@ use Rattle.lookup.proofs.choose.Tie as tie
 abbrev start : tie.After-end-of → tie.Start
 start c = c .before .before .before .before .before .before .before
 
-abbrev day : tie.After-end-of → ℕ → Terms
-day c = dayOf (start c .args .margins .now) (start c .args .orders .now) (start c .args .charges)
+abbrev day : tie.After-end-of → ℕ → Tariff
+day c = dayOf (start c .args .margins .now) (start c .args .orders .now) (start c .args .charges) (start c .args .costs .now)
 
 -- the hour after hour k, as it was made
 abbrev moved : tie.After-end-of → tie.After-next
@@ -56,7 +56,7 @@ module _ (c : tie.After-end-of) where
       ≡ pickOf (choiceAt (machine (start c .args .u) (day c)) (start c .args .k .0) (start c .args .s))
   told =
       let a = start c .args in
-      ap (λ (t : Terms). pickOf (chosen (a .u) t (worth (a .u) (day c) (suc (a .k .0))) (a .s)))
+      ap (λ (t : Tariff). pickOf (chosen (a .u) t (worth (a .u) (day c) (suc (a .k .0))) (a .s)))
       (c .before .terms-at .ensures)
       ∙ ap pickOf (sym (choice-chosen (a .u) (day c) (a .k .0) (a .s)))
 

@@ -5,7 +5,7 @@ use mathlib.Core.Path.{_≡_, sym, ap, _∙_}
 use Prim.Native.Nat.{ℕ, _+_, _-_, _*_, _≤_, _<_}
 use lib.ListN.{length}
 use Rattle.machine.specs.Lengths.{placeLength}
-use Rattle.machine.specs.declared.Terms.{Terms}
+use Rattle.machine.specs.Moves.{Tariff}
 use Rattle.machine.specs.Moves.{worth}
 use Rattle.cells.specs.Table.{entry, lockOf}
 use Rattle.rows.proofs.Ends.{sized-at}
@@ -36,7 +36,7 @@ module _ (c : tie.After-slot-from) where
     room = start c .pre .1 .1 .0 .0 .room (c .slot-from .result .number)
         (omega (arith, c .slot-from .ensures .1, own, inside))
 
-    slotted : (day : ℕ → Terms) → Saved (start c .args .u) day (start c .args .l .0) (start c .args .n) 0
+    slotted : (day : ℕ → Tariff) → Saved (start c .args .u) day (start c .args .l .0) (start c .args .n) 0
         (start c .args .work .now)
         → SavedAt (start c .args .u) (worth (start c .args .u) day (start c .args .k .0))
         (c .slot-from .result .number * start c .args .n) (start c .args .work .now)
@@ -46,7 +46,7 @@ module _ (c : tie.After-slot-from) where
         (sym (c .slot-from .ensures .1) ∙ own) inside saved
 
   -- the layer is among those that are kept
-  module _ (other : c .slot-from .result .hour .0 ≡ start c .args .k .0 → ⊥) (day : ℕ → Terms)
+  module _ (other : c .slot-from .result .hour .0 ≡ start c .args .k .0 → ⊥) (day : ℕ → Tariff)
       (free : Free (start c .args .u) day (start c .args .l .0) (start c .args .k .0) (start c .args .to .0)
       (start c .args .kept .now)) where
     spanned : (start c .args .k .0 < start c .args .to .0)

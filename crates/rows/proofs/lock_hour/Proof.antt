@@ -23,7 +23,7 @@ returns : tie.Need-returns
 returns c =
     let s = c .before .before .before .before in
     let a = s .args in
-    let day = dayOf (a .margins .now) (a .orders .now) (a .charges) in
+    let day = dayOf (a .margins .now) (a .orders .now) (a .charges) (a .costs .now) in
     let after = worth (a .u) day (suc (a .k .0)) in
     λ j m few seen r.
     let x = across-at (a .u) day (s .pre .0) (s .pre .1 .0 .fair) (suc (a .k .0)) j r in

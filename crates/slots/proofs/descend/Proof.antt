@@ -9,11 +9,11 @@ use Rattle.slots.proofs.descend.Statement.{statement}
 use Rattle.slots.proofs.descend.Tie as tie
 
 abbrev Inv-loop : tie.InvT-loop
-Inv-loop u charges margins orders k entries row₀ side₀ at₀ row side at =
-    (k .0 ≤ at .0) × (at .0 ≤ u .hours .0) × Layer u (worth u (dayOf margins orders charges) (at .0)) row side
+Inv-loop u charges margins orders costs k entries row₀ side₀ at₀ row side at =
+    (k .0 ≤ at .0) × (at .0 ≤ u .hours .0) × Layer u (worth u (dayOf margins orders charges costs) (at .0)) row side
 
 abbrev μ-loop : tie.MeasureT-loop
-μ-loop u charges margins orders k entries row₀ side₀ at₀ row side at = at .0
+μ-loop u charges margins orders costs k entries row₀ side₀ at₀ row side at = at .0
 
 loop-holds : tie.Need-loop-holds Inv-loop μ-loop
 loop-holds c = let b = c .before .pre .1 .1 .0 in (b .from, b .to, b .layer)
