@@ -52,11 +52,11 @@ larger-abs m a b h l = go (ltZ a b)
 
 -- past the row nothing is offered
 module _ (xs costs : List ℤ) (base n rd ru i : ℕ) where
-  reduced-in : (q : ℕ) → q < n → reduced xs costs base n i q ≡ offered xs costs (base + i) q
+  pub reduced-in : (q : ℕ) → q < n → reduced xs costs base n i q ≡ offered xs costs (base + i) q
   unfolding reduced
   reduced-in q h = simp (lt-ltb q n h)
 
-  reduced-past : (q : ℕ) → n ≤ q → reduced xs costs base n i q ≡ missing
+  pub reduced-past : (q : ℕ) → n ≤ q → reduced xs costs base n i q ≡ missing
   unfolding reduced
   reduced-past q h = simp (le-ltb q n h)
 
