@@ -51,11 +51,11 @@ wide s = let f = s .pre .0 in omega (arith, f .capacity-le, f .minimum-pos)
 up : (t : tie.Then1 Inv-loop μ-loop) → head t .loop .h .0 ≡ suc (head t .loop .h .0 - 1)
 up t = omega (arith, t .if1 .taken)
 
-cast-t17 : tie.Need-cast-t17 Inv-loop μ-loop
-cast-t17 c = search needs
+cast-t18 : tie.Need-cast-t18 Inv-loop μ-loop
+cast-t18 c = search needs
 
-add-t18 : tie.Need-add-t18 Inv-loop μ-loop
-add-t18 c = search needs
+add-t19 : tie.Need-add-t19 Inv-loop μ-loop
+add-t19 c = search needs
 
 least-requires : tie.Need-least-requires Inv-loop μ-loop
 least-requires c κs = search needs
@@ -162,5 +162,5 @@ returns c =
 
 pub fill-spec : {M : Type 1} → statement M
 fill-spec =
-    tie.close (tie.spec Inv-loop μ-loop cast-t17 add-t18 least-requires layer-at-requires loop-holds sub-at
+    tie.close (tie.spec Inv-loop μ-loop cast-t18 add-t19 least-requires layer-at-requires loop-holds sub-at
     step-hour-requires sub-at-2 sub-at-3 cast-at mul-save-layer save-layer-requires loop-less loop-again returns)

@@ -64,11 +64,11 @@ from t j e =
     row-at (s .args .u) (day s) up refl
     (l .inv .2 (j - 1) (omega (arith, le, l .inv .1, t .if1 .taken, s .pre .1 .1 .0 .1)))
 
-cast-t18 : tie.Need-cast-t18 Inv-loop μ-loop
-cast-t18 c = search needs
+cast-t19 : tie.Need-cast-t19 Inv-loop μ-loop
+cast-t19 c = search needs
 
-add-t19 : tie.Need-add-t19 Inv-loop μ-loop
-add-t19 c = search needs
+add-t20 : tie.Need-add-t20 Inv-loop μ-loop
+add-t20 c = search needs
 
 least-requires : tie.Need-least-requires Inv-loop μ-loop
 least-requires c κs = search needs
@@ -216,6 +216,6 @@ returns c =
 
 pub fill-spec : {M : Type 1} → statement M
 fill-spec =
-    tie.close (tie.spec Inv-loop μ-loop cast-t18 add-t19 least-requires layer-at-requires cells-of-requires
+    tie.close (tie.spec Inv-loop μ-loop cast-t19 add-t20 least-requires layer-at-requires cells-of-requires
     less-requires lock-down-requires loop-holds sub-at lock-hour-requires sub-at-2 sub-at-3 cast-at mul-put
     put-requires loop-less loop-again returns)

@@ -18,8 +18,8 @@ abbrev μ-loop : tie.MeasureT-loop
 loop-holds : tie.Need-loop-holds Inv-loop μ-loop
 loop-holds c = let b = c .before .pre .1 .1 .0 in (b .from, b .to, b .layer)
 
-sub-t12 : tie.Need-sub-t12 Inv-loop μ-loop
-sub-t12 c = omega (arith, c .before .if1 .taken)
+sub-t13 : tie.Need-sub-t13 Inv-loop μ-loop
+sub-t13 c = omega (arith, c .before .if1 .taken)
 
 step-hour-requires : tie.Need-step-hour-requires Inv-loop μ-loop
 step-hour-requires c κs =
@@ -54,4 +54,4 @@ returns c =
 
 pub descend-spec : {M : Type 1} → statement M
 descend-spec =
-    tie.close (tie.spec Inv-loop μ-loop loop-holds sub-t12 step-hour-requires loop-less loop-again returns)
+    tie.close (tie.spec Inv-loop μ-loop loop-holds sub-t13 step-hour-requires loop-less loop-again returns)
