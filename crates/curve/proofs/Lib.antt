@@ -16,4 +16,5 @@ pub mod NearLaws
 pub mod CloseLaws
 pub mod BendLaws
 pub mod TableLaws
+pub mod HeldLaws
 pub mod Promises

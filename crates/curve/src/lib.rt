@@ -10,6 +10,14 @@ pub const COSTS: usize = MOST_ENERGY + 1;
 // A coefficient, at the most.
 pub const MOST_COEFFICIENT: f64 = 1000000.0;
 
+// Binary digits of a float's pattern (specs/Pattern): those of its fraction, and all but its sign. Values are counted in
+// units of 2 ^ -SCALE.
+pub const FRACTION_DIGITS: u64 = 52;
+
+pub const SIGN_PLACE: u64 = 63;
+
+pub const SCALE: u64 = 1074;
+
 // Flat (a), straight (a, b) or curved (a, b, c).
 pub enum Kind {
     Flat(f64),
