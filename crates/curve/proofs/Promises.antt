@@ -1,16 +1,16 @@
 -- The promises of specs/Promises, kept. Assumes nothing.
-use mathlib.Core.Path.{_≡_, sym, _∙_}
+use mathlib.Core.Path.{_≡_, refl, sym, _∙_}
 use mathlib.Core.Logic.{_↔_}
 use mathlib.Core.Bool.{_&&_}
 use mathlib.Core.List.{List}
-use Prim.Native.Nat.{ℕ, _+_, _*_, _^_, _≤_, _<_}
+use Prim.Native.Nat.{ℕ, _+_, _*_, _%_, _^_, _≤_, _<_}
 use native.Mathlib.Nat.{le-of-eq, le-antisymm, le-refl, lt-of-le-of-lt}
 use native.Mathlib.Omega.{arith}
 use lib.Dec.{T, lit<}
 use lib.IntN.{ℤ, pos}
 use lib.ListN.{length, getD, drop, List·getD-append}
 use lib.Seq.{drop-at}
-use lib.Ieee.{Float, binary64, eq, fits}
+use lib.Ieee.{Float, binary64, add, mul, eq, fits, ofInt, ofBits, toBits}
 use lib.Pow.{pow-pos}
 use Rattle.laws.proofs.Tests.{and→both, both→and, T→true}
 use Rattle.curve.specs.declared.Kind.{Kind}
@@ -19,8 +19,8 @@ use Rattle.curve.specs.declared.Curve.{Curve}
 use Rattle.curve.specs.Pattern.{scale, unitsOf, wholeOf}
 use Rattle.curve.specs.Cost.{mostEnergy, costsLength, allowed, recordOf, accepted, held, costOf, patternOf}
 use Rattle.curve.specs.Cost.{entryOf, tableOf, tabled}
-use Rattle.curve.specs.Promises.{Half, IsWhole, Alike, Promises}
-use Rattle.curve.proofs.NearestLaws.{closest-half}
+use Rattle.curve.specs.Promises.{Half, Tied, IsWhole, Alike, Promises}
+use Rattle.curve.proofs.NearestLaws.{closest-half, closest-even}
 use Rattle.curve.proofs.SignLaws.{sign-clear}
 use Rattle.curve.proofs.RoundLaws.{Below}
 use Rattle.curve.proofs.AmountLaws.{Amount, Whole}
@@ -37,6 +37,15 @@ use Rattle.curve.proofs.TableLaws.{table-length, table-at}
 half : (k : Kind) (n : ℕ) → Half (entryOf k n) (unitsOf (patternOf k n)) (2 ^ scale)
 unfolding entryOf wholeOf
 half k n = closest-half (unitsOf (patternOf k n)) (2 ^ scale) (pow-pos scale)
+
+even : (k : Kind) (n : ℕ) → Tied (entryOf k n) (unitsOf (patternOf k n)) (2 ^ scale) → entryOf k n % 2 ≡ 0
+unfolding entryOf wholeOf
+even k n h = closest-even (unitsOf (patternOf k n)) (2 ^ scale) (pow-pos scale) h
+
+ordered : entryOf (Curved (ofBits binary64 4676952231506241126) (ofBits binary64 4611843644414345871)
+    (ofBits binary64 4606011482896901079)) 649 ≡ 416679
+unfolding entryOf costOf wholeOf unitsOf add mul ofBits ofInt toBits
+ordered = refl
 
 -- ---- whole coefficients
 
@@ -126,6 +135,8 @@ promises = record {
     sign = sign-clear (costOf k n) (cost-fits k n (u .floats)) (cost-amount k n (good k (u .passes)) h .nonneg);
   };
   within-half = half;
+  tie-even = even;
+  in-order = ordered;
   flat-whole = λ a A n u h. flat-is a A n u;
   straight-whole = straight-is;
   curved-whole = curved-is;

@@ -5,11 +5,11 @@ use mathlib.Core.Path.{_≡_}
 use mathlib.Core.Logic.{_↔_, _⊎_}
 use mathlib.Core.Bool.{not}
 use mathlib.Core.List.{List}
-use Prim.Native.Nat.{ℕ, _+_, _*_, _^_, _≤_, _<_}
+use Prim.Native.Nat.{ℕ, _+_, _*_, _%_, _^_, _≤_, _<_}
 use lib.Dec.{T}
 use lib.IntN.{ℤ, pos}
 use lib.ListN.{length, getD, drop}
-use lib.Ieee.{Float, binary64, eq, fits, toBits}
+use lib.Ieee.{Float, binary64, eq, fits, ofBits, toBits}
 use Rattle.curve.specs.declared.Kind.{Kind}
 use Rattle.curve.specs.declared.Kind.the-variants.{Flat, Straight, Curved}
 use Rattle.curve.specs.declared.Curve.{Curve}
@@ -28,6 +28,10 @@ pub record Number (b : ℕ) : Type 0 where
 pub record Half (t a d : ℕ) : Type 0 where
   pub over : 2 * (t * d) ≤ 2 * a + d
   pub under : 2 * a ≤ 2 * (t * d) + d
+
+-- and half away from it
+abbrev pub Tied : ℕ → ℕ → ℕ → Type 0
+Tied t a d = (2 * (t * d) ≡ 2 * a + d) ⊎ (2 * a ≡ 2 * (t * d) + d)
 
 -- the formula in whole numbers, or in units for coefficients of so many units
 abbrev pub formula : ℕ → ℕ → ℕ → ℕ → ℕ
@@ -112,6 +116,12 @@ pub record Promises : Type 0 where
   pub finite : (k : Kind) (n : ℕ) → Usable k → n ≤ 800 → Number (patternOf k n)
   -- an entry lies within half of the cost's exact value as its bits give it
   pub within-half : (k : Kind) (n : ℕ) → Half (entryOf k n) (unitsOf (patternOf k n)) (2 ^ scale)
+  -- and where two whole numbers are as near, it is the even one
+  pub tie-even : (k : Kind) (n : ℕ) → Tied (entryOf k n) (unitsOf (patternOf k n)) (2 ^ scale) → entryOf k n % 2 ≡ 0
+  -- the order of the operations, each rounded once: with 48890.2, 2.07 and 0.87 at 649, where other orders, fused
+  -- operations and the exact value all give 416,678
+  pub in-order : entryOf (Curved (ofBits binary64 4676952231506241126) (ofBits binary64 4611843644414345871)
+      (ofBits binary64 4606011482896901079)) 649 ≡ 416679
   -- with whole coefficients an entry is the formula in whole numbers
   pub flat-whole : (a : Float) (A n : ℕ) → IsWhole a A → n ≤ 800 → entryOf (Flat a) n ≡ A
   pub straight-whole : (a b : Float) (A B n : ℕ) → IsWhole a A → IsWhole b B → n ≤ 800
