@@ -7,7 +7,8 @@ use Prim.Native.Nat.{ℕ, suc, _-_, _*_, _<_}
 use lib.ListN.{getD}
 use lib.IntN.{pos}
 use Rattle.machine.specs.Lengths.{placeLength}
-use Rattle.machine.specs.Moves.{Tariff}
+use Rattle.machine.specs.declared.Terms.{Terms}
+use Rattle.machine.specs.Moves.{Tariff, tariffOf}
 use Rattle.machine.specs.Search.{choiceAt}
 use Rattle.machine.specs.Moves.{dayOf, machine, worth, chosen}
 use Rattle.machine.proofs.Table.Choices.{choice-chosen}
@@ -51,12 +52,12 @@ module _ (c : tie.After-end-of) where
       entered ∙ ap (λ (n : ℕ). entry u (worth u (day c) n)) (sym after)
 
   -- a choice by the terms that were fetched is that of the machine
-  told : pickOf (chosen (start c .args .u) (c .before .terms-at .result)
+  told : pickOf (chosen (start c .args .u) (tariffOf (c .before .terms-at .result) (start c .args .costs .now))
       (worth (start c .args .u) (day c) (suc (start c .args .k .0))) (start c .args .s))
       ≡ pickOf (choiceAt (machine (start c .args .u) (day c)) (start c .args .k .0) (start c .args .s))
   told =
       let a = start c .args in
-      ap (λ (t : Tariff). pickOf (chosen (a .u) t (worth (a .u) (day c) (suc (a .k .0))) (a .s)))
+      ap (λ (t : Terms). pickOf (chosen (a .u) (tariffOf t (a .costs .now)) (worth (a .u) (day c) (suc (a .k .0))) (a .s)))
       (c .before .terms-at .ensures)
       ∙ ap pickOf (sym (choice-chosen (a .u) (day c) (a .k .0) (a .s)))
 
@@ -174,7 +175,8 @@ returns-2 c =
     let s = start v in
     let a = s .args in
     c .from-after .ensures (day v) (s .pre .1 .0 .fair) (s .pre .1 .1 .1 .0 .1) (free (c .before)) (entered-at v)
-    ∙ ap (λ (n : ℕ). pickOf (chosen (a .u) (v .before .terms-at .result) (worth (a .u) (day v) n) (a .s))) (after v)
+    ∙ ap (λ (n : ℕ). pickOf (chosen (a .u) (tariffOf (v .before .terms-at .result) (a .costs .now))
+    (worth (a .u) (day v) n) (a .s))) (after v)
     ∙ told v
 
 pub choose-spec : {M : Type 1} → statement M
