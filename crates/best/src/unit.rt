@@ -7,12 +7,14 @@ ghost use lib.IntN.{pos, _-ℤ_};
 ghost use Rattle.model.specs.Limits.{mostStages, mostHours};
 ghost use Rattle.model.specs.Layout.{padded, noOutput, noMills};
 ghost use Rattle.model.specs.Refusals.{refusalOf};
-ghost use Rattle.machine.specs.Cases.{unitOf, chargesOf, openingOf, stopsEarly};
+ghost use Rattle.machine.specs.Cases.{unitOf, ratesOf, chargesOf, openingOf, stopsEarly};
 use machine::Charges;
+use machine::Rates;
 use machine::State;
 use machine::Unit;
 use model::Case;
 use model::HOURS;
+use model::HalfMills;
 use model::Hour;
 use model::Mills;
 use model::Output;
@@ -60,11 +62,19 @@ pub(crate) fn orders(bytes: [u8; HOURS], n: usize) -> [u8; HOURS]
     first
 }
 
-// What an on-line hour, a start and a stop cost.
-pub(crate) fn charges_of(case: Case) -> Charges
-    ensures { λ r. ⌜ r ≡ chargesOf case ⌝ }
+// What the energy of a day costs by F and A.
+pub(crate) fn rates_of(case: Case) -> Rates
+    ensures { λ r. ⌜ r ≡ ratesOf case ⌝ }
 {
+    let variable = case.variable;
     let holds = money::charged(case.fixed, 1);
+    Rates { variable, holds }
+}
+
+// What an on-line hour, a start and a stop cost.
+pub(crate) fn charges_of(case: Case, holds: HalfMills) -> Charges
+    ensures { λ r. ⌜ r ≡ chargesOf case holds ⌝ }
+{
     let starts = money::charged(case.startcost, 1);
     let stops = money::charged(case.stopcost, 1);
     Charges {

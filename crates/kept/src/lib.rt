@@ -68,7 +68,17 @@ pub fn fill(
     let mut h = to;
     while k.0 < h.0 {
         h = Hour(h.0 - 1);
-        layers::step_hour(u, charges, margins, orders, costs, h, entries, &mut row, &mut side);
+        layers::step_hour(
+            u,
+            charges,
+            margins,
+            orders,
+            costs,
+            h,
+            entries,
+            &mut row,
+            &mut side,
+        );
         let at = (to.0 - h.0 - 1) as usize;
         slots::save_layer(u, at * PLACE, &row, &side, kept);
     }
@@ -106,7 +116,20 @@ pub fn keep_rows(
             return held;
         }
     }
-    locks::fill(u, charges, margins, orders, costs, k, b, l, n, entries, work, kept)
+    locks::fill(
+        u,
+        charges,
+        margins,
+        orders,
+        costs,
+        k,
+        b,
+        l,
+        n,
+        entries,
+        work,
+        kept,
+    )
 }
 
 // The layers from hour k on, unless they are there, hour k has a slot or the day is over.

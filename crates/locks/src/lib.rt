@@ -93,7 +93,17 @@ pub fn fill(
         &mut side,
     );
     let wide = rows::cells_of(u);
-    rows::lock_down(u, charges, margins, orders, costs, to, b.less(to), wide, &mut row);
+    rows::lock_down(
+        u,
+        charges,
+        margins,
+        orders,
+        costs,
+        to,
+        b.less(to),
+        wide,
+        &mut row,
+    );
     let mut h = to;
     while k.0 < h.0 {
         h = Hour(h.0 - 1);

@@ -29,7 +29,15 @@ ghost use Rattle.locks.specs.Locked.{lockEnd};
 ghost use Rattle.kept.specs.Held.{Free, Ready};
 
 // From the layer at `off`, where no lock is looked at.
-pub fn from_slot(u: Unit, t: Terms, costs: &[i64], s: State, off: usize, work: &[i64], e: HalfMills) -> Pick
+pub fn from_slot(
+    u: Unit,
+    t: Terms,
+    costs: &[i64],
+    s: State,
+    off: usize,
+    work: &[i64],
+    e: HalfMills,
+) -> Pick
     requires { ⌜ Fit u ⌝ }
     requires { ⌜ Fair (tariffOf t (now costs)) ⌝ }
     requires { ⌜ (Proper u s) × (lockOf s ≤ 1) × (off + (cellsOf u + sideLength) ≤ length (now work)) ⌝ }
@@ -43,7 +51,15 @@ pub fn from_slot(u: Unit, t: Terms, costs: &[i64], s: State, off: usize, work: &
 }
 
 // From the row at `off`, inside a lock.
-pub fn from_row(u: Unit, t: Terms, costs: &[i64], s: State, off: usize, kept: &[i64], e: HalfMills) -> Pick
+pub fn from_row(
+    u: Unit,
+    t: Terms,
+    costs: &[i64],
+    s: State,
+    off: usize,
+    kept: &[i64],
+    e: HalfMills,
+) -> Pick
     requires { ⌜ Fit u ⌝ }
     requires { ⌜ Fair (tariffOf t (now costs)) ⌝ }
     requires { ⌜ (Proper u s) × (1 < lockOf s) × (off + cellsOf u ≤ length (now kept)) ⌝ }

@@ -7,14 +7,13 @@ use Prim.Native.Nat.{ℕ}
 use lib.IntN.{pos, _-ℤ_}
 use lib.ListN.{length, getD}
 use Rattle.model.specs.Limits.{mostHours}
-use Rattle.model.specs.Best.{bestDay}
 use Rattle.model.specs.Layout.{noMills}
 use Rattle.model.specs.Answers.{cleared}
 use Rattle.model.proofs.WorkLaws.{work-within}
 use Rattle.model.proofs.LayoutLaws.{length-padded}
 use Rattle.model.proofs.LimitsLaws.{limits-of-refusalOf}
 use Rattle.machine.specs.declared.Unit.{Unit}
-use Rattle.machine.specs.Fit.{Fit, Fair}
+use Rattle.machine.specs.Fit.{Fit}
 use Rattle.machine.specs.Proper.{Proper}
 use Rattle.machine.specs.Cases.{unitOf, marginsOf, ordersOf, chargesOf, termsOf, openingOf}
 use Rattle.machine.proofs.Bridge.FitLaws.{fit-of-limits, fair-of-limits, opening-proper}
@@ -30,8 +29,9 @@ start c =
 
 -- what the search found, of the case's own unit, hours and opening
 module _ (c : tie.After-search-first) where
-  found : Found (unitOf (start c .args .case)) (termsOf (start c .args .case)) (openingOf (start c .args .case))
-      (start c .args .outputs .now) (c .search-first .last .1 .1 .1 .1 .1 .1 .1 .0) (c .search-first .result .0)
+  found : Found (unitOf (start c .args .case)) (termsOf (start c .args .case) (start c .args .rates) (start c .args .costs .now))
+      (openingOf (start c .args .case)) (start c .args .outputs .now)
+      (c .search-first .last .1 .1 .1 .1 .1 .1 .1 .1 .0) (c .search-first .result .0)
   unfolding marginsOf ordersOf
   found =
       let orders = c .before .before .before .before .before in
@@ -44,12 +44,6 @@ module _ (c : tie.After-search-first) where
         opening .before .charges-of .ensures,
         opening .opening-of .ensures,
       ) at (c .search-first .ensures .0)
-
-  fit : Fit (unitOf (start c .args .case))
-  fit = fit-of-limits (start c .args .case) (start c .pre .0 .0)
-
-  fair : (k : ℕ) → Fair (termsOf (start c .args .case) k)
-  fair = fair-of-limits (start c .args .case) (start c .pre .0 .0)
 
 unit-of-requires : tie.Need-unit-of-requires
 unit-of-requires c κs = search needs
@@ -92,16 +86,19 @@ search-first-requires c κs =
     let ord = c .before .before .before .before .orders .ensures in
     let lim = limits-of-refusalOf case (s .pre .0 .0) in
     let work = work-within case in
-    let day : Day (unitOf case) (marginsOf case) (ordersOf case) (chargesOf case) =
+    let (cost, pays) = s .pre .1 .1 in
+    let rates = s .args .rates in
+    let day : Day (unitOf case) (marginsOf case (rates .variable)) (ordersOf case) (chargesOf case (rates .holds))
+    (s .args .costs .now) =
     record {
       margins-long = omega (
         arith,
         lim .hours-le,
-        length-padded (pos 0) (λ k. getD (case .prices) k noMills .0 -ℤ case .variable .0) (case .hours) mostHours,
+        length-padded (pos 0) (λ k. getD (case .prices) k noMills .0 -ℤ rates .variable .0) (case .hours) mostHours,
       );
       orders-long =
           omega (arith, lim .hours-le, length-padded 0 (λ k. getD (case .orders) k 0) (case .hours) mostHours);
-      fair = fair-of-limits case (s .pre .0 .0);
+      fair = fair-of-limits case (s .pre .0 .0) pays;
     } in (
       subst Fit (sym u) (fit-of-limits case (s .pre .0 .0)),
       (
@@ -112,13 +109,15 @@ search-first-requires c κs =
                 (subst (Proper (unitOf case)) (sym o) (opening-proper case (s .pre .0 .0))),
             omega (arith, ap (λ (x : Unit). x .hours .0) u),
           ),
-          (omega (arith, s .pre .1 .0, work .0), omega (arith, s .pre .1 .0, work .1), s .pre .1 .1),
+          (omega (arith, s .pre .1 .0 .0, work .0), omega (arith, s .pre .1 .0 .0, work .1), s .pre .1 .0 .1),
         ),
       ),
     )
 
 clear-requires : tie.Need-clear-requires
-clear-requires c κs = search needs
+clear-requires c κs =
+    let a = c .before .before .before .before in
+    omega (arith, a .search-first .kept .1 .1 .1 .1 .1 .1 .1 .0, start a .pre .1 .0 .1)
 
 absent-requires : tie.Need-absent-requires
 absent-requires c κs = search needs
@@ -135,15 +134,14 @@ returns c =
     let s = start a in
     let work = s .args .work .now in
     let outputs = s .args .outputs .now in
-    let absent = sym (c .before .absent .ensures) ∙ c .if1 .taken in
-    let (accepted, late) = s .pre .0 in
-    let r = find-none (s .args .case) accepted late (fit a) (fair a) work outputs _ _ (found a) absent in (
-      r .0,
+    let gone = sym (c .before .absent .ensures) ∙ c .if1 .taken in
+    let (accepted, late) = s .pre .0 in (
+      λ cost pays. find-none (s .args .case) accepted late pays work outputs _ _ (found a) gone .0,
       (
-        c .before .before .before .clear .ensures ∙ cleared-past (s .args .n) work _ (a .search-first .ensures .1)
-            ∙ ap (λ n. cleared n work) (s .pre .1 .0)
-            ∙ sym (planned-work (s .args .case) work outputs (bestDay (s .args .case))),
-        r .1,
+        λ cost pays. c .before .before .before .clear .ensures
+            ∙ cleared-past (s .args .n) work _ (a .search-first .ensures .1)
+            ∙ ap (λ n. cleared n work) (s .pre .1 .0 .0) ∙ sym (planned-work (s .args .case) _ work outputs _),
+        λ cost pays. find-none (s .args .case) accepted late pays work outputs _ _ (found a) gone .1,
       ),
     )
 
@@ -159,15 +157,14 @@ returns-2 c =
     let s = start a in
     let work = s .args .work .now in
     let outputs = s .args .outputs .now in
-    let present = sym (c .before .absent .ensures) ∙ c .if1 .left in
-    let (accepted, late) = s .pre .0 in
-    let r = find-some (s .args .case) accepted late (fit a) (fair a) work outputs _ _ (found a) present in (
-      r .0,
+    let there = sym (c .before .absent .ensures) ∙ c .if1 .left in
+    let (accepted, late) = s .pre .0 in (
+      λ cost pays. find-some (s .args .case) accepted late pays work outputs _ _ (found a) there .0,
       (
-        c .before .before .before .clear .ensures ∙ cleared-past (s .args .n) work _ (a .search-first .ensures .1)
-            ∙ ap (λ n. cleared n work) (s .pre .1 .0)
-            ∙ sym (planned-work (s .args .case) work outputs (bestDay (s .args .case))),
-        r .1,
+        λ cost pays. c .before .before .before .clear .ensures
+            ∙ cleared-past (s .args .n) work _ (a .search-first .ensures .1)
+            ∙ ap (λ n. cleared n work) (s .pre .1 .0 .0) ∙ sym (planned-work (s .args .case) _ work outputs _),
+        λ cost pays. find-some (s .args .case) accepted late pays work outputs _ _ (found a) there .1,
       ),
     )
 

@@ -7,11 +7,14 @@ use Rattle.best.proofs.unit.charges_of.Tie as tie
 returns : tie.Need-returns
 unfolding chargesOf
 returns c =
-    let holds = c .before .before .charged .ensures in
-    let starts = c .before .charged2 .ensures in
-    let stops = c .charged3 .ensures in
-    λ i. record { holds = record { 0 = holds i }; starts = record { 0 = starts i }; stops = record { 0 = stops i } }
+    let starts = c .before .charged .ensures in
+    let stops = c .charged2 .ensures in
+    λ i. record {
+      holds = c .before .before .args .holds;
+      starts = record { 0 = starts i };
+      stops = record { 0 = stops i };
+    }
 
 pub charges-of-spec : {M : Type 1} → statement M
 charges-of-spec =
-    tie.close (tie.spec (λ c κs. search needs) (λ c κs. search needs) (λ c κs. search needs) returns)
+    tie.close (tie.spec (λ c κs. search needs) (λ c κs. search needs) returns)

@@ -1,0 +1,2 @@
+-- Definitions that the contracts of the search of a case cite.
+pub mod Searched
