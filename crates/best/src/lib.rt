@@ -3,7 +3,7 @@
 // `scheduleOf`; the best list is `bestDay` of model's specs/Best. A case outside the limits is refused by 2 to 8 or 13,
 // memory that is too short by 10, and nothing is changed then. Beside it, the search of a case by whatever its energy
 // costs (specs/Searched), which other crates of this repository call with what it asks for.
-mod unit;
+pub mod unit;
 mod wipe;
 
 use machine::Charges;

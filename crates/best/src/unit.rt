@@ -72,7 +72,7 @@ pub(crate) fn rates_of(case: Case) -> Rates
 }
 
 // What an on-line hour, a start and a stop cost.
-pub(crate) fn charges_of(case: Case, holds: HalfMills) -> Charges
+pub fn charges_of(case: Case, holds: HalfMills) -> Charges
     ensures { λ r. ⌜ r ≡ chargesOf case holds ⌝ }
 {
     let starts = money::charged(case.startcost, 1);

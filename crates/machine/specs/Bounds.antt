@@ -24,7 +24,7 @@ mostFee = 2 * mostCharge
 
 -- half-mills: what an hour earns or loses; what the hours of a day do
 abbrev pub mostEarned : ℕ
-mostEarned = mostMargin * mostEnds + 2 * mostCost + 2 * mostFee
+mostEarned = mostMargin * mostEnds + 3 * mostCost + mostFee
 
 abbrev pub mostWorth : ℕ
 mostWorth = mostHours * mostEarned

@@ -2,7 +2,7 @@
 // (model's specs/Answers say which). A refused reading is answered by its number. The record of an accepted one is
 // tested again, 2 to 8 and 13, so that no reading has to be trusted; then 9, for a list that is not of T outputs. The
 // work grows with the hours, and in the hours of a start-up or a shut-down with its trajectory. The list is only read.
-mod breach;
+pub mod breach;
 
 use breach::first_breach;
 use limits::refusal_of;
@@ -14,6 +14,7 @@ use profit::profit_of;
 ghost use mathlib.Core.Path.{_≡_};
 ghost use lib.ListN.{length};
 ghost use Rattle.model.specs.Rules.{breach};
+ghost use Rattle.model.specs.Profit.{profitOf};
 ghost use Rattle.model.specs.Refusals.{refusalOf};
 ghost use Rattle.model.specs.Answers.{judged, checkOf};
 
@@ -21,7 +22,7 @@ ghost use Rattle.model.specs.Answers.{judged, checkOf};
 fn judge(case: Case, list: &[u16]) -> Verdict
     requires { ⌜ refusalOf case ≡ 0 ⌝ }
     requires { ⌜ length (now list) ≡ case .hours ⌝ }
-    ensures { λ r. ⌜ r ≡ judged case (now (list .entry)) (breach case (now (list .entry))) ⌝ }
+    ensures { λ r. ⌜ r ≡ judged (profitOf case (now (list .entry))) (breach case (now (list .entry))) ⌝ }
 {
     let found = first_breach(case, list);
     if found.rule == 0 {

@@ -6,7 +6,7 @@ use Prim.Native.Nat.{_+_, _*_, _≤_}
 use lib.IntN.{natAbs}
 use native.Mathlib.Nat.{mul-le-mul}
 use Rattle.laws.proofs.Magnitude.{abs-+, abs--}
-use Rattle.machine.specs.Bounds.{mostEnds, mostEnergy, mostMargin, mostFee}
+use Rattle.machine.specs.Bounds.{mostEnds, mostEnergy, mostCost, mostMargin}
 use Rattle.machine.specs.Moves.{head}
 use Rattle.machine.proofs.Table.Sizes.{product-abs}
 use Rattle.cells.proofs.head_of.Statement.{statement}
@@ -25,7 +25,7 @@ sold c = let s = c .before in rw (c .multiple .ensures) (product-abs (s .pre .0)
 difference-requires : tie.Need-difference-requires
 difference-requires c κs = omega (arith, sold c, c .before .pre .0 .holds-le)
 
-left : (c : tie.After-difference) → natAbs (c .difference .result .0) ≤ mostMargin * mostEnds + mostFee
+left : (c : tie.After-difference) → natAbs (c .difference .result .0) ≤ mostMargin * mostEnds + mostCost
 left c =
     let m = c .before in
     let s = m .before in

@@ -30,7 +30,7 @@ use Rattle.model.proofs.Automaton.Stages.{pu-le, pd-le, pd-lt}
 use Rattle.machine.proofs.Bridge.CasesLaws.{pu-past, pd-past, pu-at, pd-at, margin-past, margin-at}
 
 -- no table at all
-no-table : Tabled []
+pub no-table : Tabled []
 no-table =
     record {
       long = inl refl;
@@ -95,7 +95,7 @@ module _ (c : Case) (lim : Limits c) where
   own =
       record {
         variable-le = lim .variable-in .le;
-        holds-le = doubled-le (lim .fixed-in);
+        holds-le = omega (arith, doubled-le (lim .fixed-in));
         tabled = no-table;
         says = λ n h. ap (λ x. x +ℤ A c *ℤ pos 2) (sym (+ℤ-idr (F c *ℤ pos n)));
       }

@@ -4,7 +4,7 @@ use mathlib.Core.Path.{_≡_, refl, sym, ap, _∙_, subst}
 use mathlib.Core.Bool.{Bool, true, false, _&&_, cond}
 use mathlib.Core.List.{List}
 use mathlib.Core.Option.{Option, none, some}
-use Prim.Native.Nat.{ℕ, zero, suc, _+_, _-_, _≤_, min}
+use Prim.Native.Nat.{ℕ, zero, suc, _+_, _-_, min}
 use native.Mathlib.Omega.{arith}
 use borrow.Author.Tests.{lt-ltb, ltb-true, ltb-false}
 use lib.Dec.{T, ltb, eqb, eqb·suc-zero}
@@ -12,13 +12,10 @@ use lib.IntN.{ℤ}
 use Rattle.laws.proofs.Tests.{both, true→T, false→not}
 use Rattle.model.specs.declared.Case.{Case}
 use Rattle.model.specs.Symbols.{DD, PU, PD, last, p0, h, upStage, downStage}
-use Rattle.model.specs.Limits.{mostOutput}
-use Rattle.model.specs.Marks.{p}
 use Rattle.model.specs.Rules.{keeps}
 use Rattle.model.specs.Profit.{profitBy}
 use Rattle.model.proofs.LimitsLaws.{Limits}
-use Rattle.model.proofs.MarksLaws.{p-zero, p-suc}
-use Rattle.model.proofs.CapacityLaws.{initial-le, output-le}
+use Rattle.model.proofs.CapacityLaws.{p-le}
 use Rattle.model.proofs.OpeningLaws.{in-start, in-stop, in-none}
 use Rattle.machine.specs.declared.Rates.{Rates}
 use Rattle.machine.specs.declared.State.the-variants.{Rise, Fall}
@@ -104,11 +101,6 @@ module _ (c : Case) where
       abbrev Outcome : Option ℤ
       Outcome = outcome (machine (unitOf c) (termsOf c rates costs)) 0 (last c) (image c start) l
 
-      -- the outputs of a list that keeps the rules, p(0) among them, are within the limit
-      within : T (keeps c l) → (k : ℕ) → k ≤ last c → p c l k ≤ mostOutput
-      within t zero h = omega (arith, p-zero c l, initial-le c lim, lim .capacity-le)
-      within t (suc k) h = omega (arith, p-suc c l k, output-le c lim l t k h, lim .capacity-le)
-
       outcome-of-keeps : T (keeps c l) → Outcome ≡ some (profitBy cost c l)
       outcome-of-keeps t =
           let (n, q, r) = keeps-runs c l lim .0 t in
@@ -117,7 +109,7 @@ module _ (c : Case) where
           (λ k. outcome (machine (unitOf c) (termsOf c rates costs)) 0 k (image c start) l ≡ some (profitBy cost c l)) n
           (gain
           ∙ ap (λ q. some (profitFrom c rates costs 0 q l)) output-first
-          ∙ ap some (profitFrom-profitBy c lim pays l (within t) n))
+          ∙ ap some (profitFrom-profitBy c lim pays l (λ k h. omega (arith, p-le c lim l t k h, lim .capacity-le)) n))
 
       keeps-of-outcome : (v : ℤ) → Outcome ≡ some v → T (keeps c l)
       keeps-of-outcome v e =

@@ -69,7 +69,7 @@ module _ (c : Case) (lim : Limits c) {rates : Rates} {costs : List ℤ} {cost : 
   energy-le : (k : ℕ) → k < last c → p c l k + p c l (suc k) ≤ mostEnergy
   energy-le k h = omega (arith, within k (omega arith), within (suc k) h)
 
-  earn-same : (k : ℕ) → k < last c
+  pub earn-same : (k : ℕ) → k < last c
       → profitByAt cost c l (suc k) ≡ earn (termsOf c rates costs k) (p c l k) (p c l (suc k))
   unfolding chargesOf charge earn
   earn-same k h =

@@ -2,6 +2,7 @@
 use borrow.Author.Needs.{needs}
 use mathlib.Core.Path.{_∙_, ap, sym}
 use Rattle.model.specs.declared.Verdict.the-variants.{Passes}
+use Rattle.model.specs.Profit.{profitOf}
 use Rattle.model.specs.Answers.{judged}
 use Rattle.model.proofs.CheckLaws.{judged-none, judged-some}
 use Rattle.rules.proofs.BreachLaws.{found-none, found-some}
@@ -21,14 +22,15 @@ returns c =
     let a = d .before .before .args in
     let none = found .ensures ∙ found-none (found .result) (c .before .if1 .taken) in
     ap (λ x. Passes (record { 0 = x })) (c .profit-of .ensures .is)
-    ∙ sym (ap (judged (a .case) (a .list .now)) none ∙ judged-none (a .case) (a .list .now))
+    ∙ sym (ap (judged (profitOf (a .case) (a .list .now))) none ∙ judged-none (profitOf (a .case) (a .list .now)))
 
 returns-2 : tie.Need-returns-2
 returns-2 c =
     let found = c .before .before .first-breach in
     let a = c .before .before .before .before .args in
     let some = found .ensures ∙ found-some (found .result) (c .if1 .left) in
-    sym (ap (judged (a .case) (a .list .now)) some ∙ judged-some (a .case) (a .list .now) (found .result))
+    sym (ap (judged (profitOf (a .case) (a .list .now))) some
+    ∙ judged-some (profitOf (a .case) (a .list .now)) (found .result))
 
 pub judge-spec : {M : Type 1} → statement M
 judge-spec = tie.close (tie.spec first-breach-requires profit-of-requires returns returns-2)

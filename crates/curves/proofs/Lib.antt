@@ -1,0 +1,3 @@
+-- Laws behind the contracts of the calls by a cost curve.
+pub mod SplitLaws
+pub mod DayLaws

@@ -1,0 +1,2 @@
+-- Definitions that the contracts of the calls by a cost curve cite.
+pub mod Even
