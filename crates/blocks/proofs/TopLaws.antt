@@ -69,6 +69,11 @@ module _ {xs costs : List ℤ} {at a : ℕ} where
       go true f = record { place = q; low = h; high = omega arith; is = f }
       go false f = record { place = o .place; low = o .low; high = omega (arith, o .high); is = f ∙ o .is }
 
+pub offers-wider : {xs costs : List ℤ} {at a b c d : ℕ} {v : ℤ} → Offers xs costs at a b v → c ≤ a → b ≤ d
+    → Offers xs costs at c d v
+offers-wider o h k =
+    record { place = o .place; low = omega (arith, o .low); high = omega (arith, o .high); is = o .is }
+
 module _ {xs costs : List ℤ} {at : ℕ} {v : ℤ} where
   pub under-none : (a : ℕ) → Under xs costs at a a v
   under-none a = record { under = λ q h k. absurd (omega arith) }

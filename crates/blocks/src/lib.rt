@@ -1,13 +1,13 @@
 // The most that a window of places offers to each place of a row, where what a place offers is lowered by a table of
 // costs, read at the two places together. The table bends upwards but for a slack, so blocks of places share the work:
 // of the places that all windows of a block take in, those above the last that is good for the block's first place, and
-// those below the first that is good for its last place, are no better for any place of the block. The definitions are
-// those of specs/Sweeps, specs/Offers and specs/Cuts. Each function is called by crates of this repository, which keep
-// what it asks for.
+// those below the first that is good for its last place, are no better for any place of the block. How good is good is
+// found near the places that were good for the block before. The definitions are those of specs/Sweeps, specs/Offers
+// and specs/Cuts. Each function is called by crates of this repository, which keep what it asks for.
 use machine::ROW;
 use model::HalfMills;
 ghost use mathlib.Core.Path.{_≡_};
-ghost use Prim.Native.Nat.{_+_, _-_, _≤_, _<_};
+ghost use Prim.Native.Nat.{_+_, _-_, _≤_, _<_, max};
 ghost use lib.ListN.{length};
 ghost use lib.IntN.{pos, _-ℤ_};
 ghost use Rattle.machine.specs.Bounds.{mostEnergy};
@@ -17,13 +17,13 @@ ghost use Rattle.blocks.specs.Offers.{slack, Bent, offered, Ready};
 ghost use Rattle.blocks.specs.Sweeps.{Swept};
 ghost use Rattle.blocks.specs.Cuts.{mostOf, topOf, Offers, Under, partsOf, Enough, Topped};
 
-// How many places a block has.
+// How many places a block has, and how many places further than the block before it looks for good ones.
 const BLOCK: usize = 16;
 
 // What the table may lack to bending upwards (specs/Offers): a place that is worse by as much is left out.
 const SLACK: i64 = 2;
 
-// The most that is offered to the first and to the last place of a block.
+// What is offered to the first and to the last place of a block.
 struct Ends {
     first: HalfMills,
     last: HalfMills,
@@ -77,6 +77,32 @@ fn ends_of(old: &[i64], costs: &[i64], l: usize, r: usize, a: usize, b: usize) -
     Ends { first, last }
 }
 
+// The larger of two places.
+fn greatest(a: usize, b: usize) -> usize
+    ensures { λ r. ⌜ r ≡ max a b ⌝ }
+{
+    if a <= b { b } else { a }
+}
+
+// The most that those of the places a to before b offer that are near what an earlier cut looks at.
+fn ends_near(
+    old: &[i64],
+    costs: &[i64],
+    l: usize,
+    r: usize,
+    a: usize,
+    b: usize,
+    earlier: Cut,
+) -> Ends
+    requires { ⌜ (l ≤ r) × (a < b) × (earlier .high ≤ mostEnergy + 1) × (Ready (now old) (now costs) r b) ⌝ }
+    ensures { λ e. ⌜ Offers (now (old .entry)) (now (costs .entry)) l a b (e .first .0) ⌝ }
+    ensures { λ e. ⌜ Offers (now (old .entry)) (now (costs .entry)) r a b (e .last .0) ⌝ }
+{
+    let from = greatest(a, money::least(money::less(earlier.low, BLOCK), b - 1));
+    let to = greatest(from + 1, money::least(earlier.high + BLOCK, b));
+    ends_of(old, costs, l, r, from, to)
+}
+
 // The first of the places a to before b that offers more than `top` less the slack.
 fn lowest(old: &[i64], costs: &[i64], at: usize, a: usize, b: usize, top: HalfMills) -> usize
     requires { ⌜ Ready (now old) (now costs) at b ⌝ }
@@ -113,7 +139,8 @@ fn highest(old: &[i64], costs: &[i64], at: usize, a: usize, b: usize, top: HalfM
     q
 }
 
-// What the block of places s to r looks at: all of each window where the windows have no place in common.
+// What the block of places s to r looks at: all of each window where the windows have no place in common. An earlier
+// cut tells where good places may be.
 fn cut_of(
     old: &[i64],
     costs: &[i64],
@@ -123,8 +150,10 @@ fn cut_of(
     ru: usize,
     s: usize,
     r: usize,
+    earlier: Cut,
 ) -> Cut
-    requires { ⌜ (s ≤ r) × (r < n) × (ru ≤ rowLength) × (Ready (now old) (now costs) (base + r) n) ⌝ }
+    requires { ⌜ (s ≤ r) × (r < n) × (ru ≤ rowLength) × (earlier .high ≤ n) ⌝ }
+    requires { ⌜ Ready (now old) (now costs) (base + r) n ⌝ }
     ensures { λ k. ⌜ Enough (now (old .entry)) (now (costs .entry)) base n rd ru s r
         (k .left) (k .low) (k .high) (k .right) ⌝ }
 {
@@ -138,7 +167,7 @@ fn cut_of(
             right: n,
         };
     }
-    let e = ends_of(old, costs, base + s, base + r, left, right);
+    let e = ends_near(old, costs, base + s, base + r, left, right, earlier);
     let low = lowest(old, costs, base + r, left, right, e.last);
     let high = highest(old, costs, base + s, left, right, e.first);
     Cut {
@@ -196,10 +225,16 @@ fn fill(row: &mut [i64], old: &[i64], costs: &[i64], base: usize, n: usize, rd: 
     ensures { λ _. ⌜ Written (now (row .entry)) (now (row .exit)) 0 n
         (topOf (now (old .entry)) (now (costs .entry)) base n rd ru) ⌝ }
 {
+    let mut k = Cut {
+        left: 0,
+        low: 0,
+        high: n,
+        right: n,
+    };
     let mut s = 0;
     while s < n {
         let e = money::least(s + BLOCK, n);
-        let k = cut_of(old, costs, base, n, rd, ru, s, e - 1);
+        k = cut_of(old, costs, base, n, rd, ru, s, e - 1, k);
         block(row, old, costs, base, n, rd, ru, s, e, k);
         s = e;
     }

@@ -12,10 +12,11 @@ use Rattle.blocks.proofs.fill.Statement.{statement}
 use Rattle.blocks.proofs.fill.Tie as tie
 
 abbrev Inv-loop : tie.InvT-loop
-Inv-loop row₀ old costs base n rd ru s₀ row s = (s ≤ n) × Written row₀ row 0 s (topOf old costs base n rd ru)
+Inv-loop row₀ old costs base n rd ru k₀ s₀ row k s =
+    (s ≤ n) × (k .high ≤ n) × Written row₀ row 0 s (topOf old costs base n rd ru)
 
 abbrev μ-loop : tie.MeasureT-loop
-μ-loop row₀ old costs base n rd ru s₀ row s = n - s
+μ-loop row₀ old costs base n rd ru k₀ s₀ row k s = n - s
 
 -- a block's start; the row can offer to the block's last place
 abbrev turn : tie.After-least Inv-loop μ-loop → tie.At-loop Inv-loop μ-loop
@@ -29,8 +30,10 @@ ready c =
 
 cut-of-requires : tie.Need-cut-of-requires Inv-loop μ-loop
 cut-of-requires c κs =
-    let l = turn c in
-    (omega (arith, c .least .ensures), omega (arith, c .least .ensures), l .before .pre .0 .1, ready c)
+    let l = turn c in (
+      (omega (arith, c .least .ensures), omega (arith, c .least .ensures), l .before .pre .0 .1, l .loop .inv .1),
+      ready c,
+    )
 
 block-requires : tie.Need-block-requires Inv-loop μ-loop
 block-requires c κs =
@@ -40,7 +43,7 @@ block-requires c κs =
       (
         omega (arith, e .least .ensures),
         omega (arith, e .least .ensures),
-        omega (arith, s .0, l .loop .inv .1 .long),
+        omega (arith, s .0, l .loop .inv .2 .long),
         s .1,
       ),
       (ready e, c .before .cut-of .ensures),
@@ -48,9 +51,13 @@ block-requires c κs =
 
 loop-again : tie.Need-loop-again Inv-loop μ-loop
 loop-again c =
-    let e = c .before .before .before .before in
-    let l = turn e .loop in
-    (omega (arith, e .least .ensures), written-join (l .inv .1) (c .before .block .ensures) (omega (arith, e .least .ensures)))
+    let k = c .before .before .before in
+    let e = k .before in
+    let h : turn e .loop .s ≤ e .least .result = omega (arith, e .least .ensures) in (
+      omega (arith, e .least .ensures),
+      k .cut-of .ensures .within,
+      written-join (turn e .loop .inv .2) (c .before .block .ensures) h,
+    )
 
 pub fill-spec : {M : Type 1} → statement M
 fill-spec =
@@ -58,7 +65,7 @@ fill-spec =
     (tie.spec
     Inv-loop
     μ-loop
-    (λ c. (omega arith, written-start _ _ _ _ (omega arith)))
+    (λ c. (omega arith, omega arith, written-start _ _ _ _ (omega arith)))
     (λ c. omega (arith, c .before .before .pre .1 (omega arith) .reach))
     (λ c κs. search needs)
     (λ c. omega (arith, c .least .ensures))
@@ -66,5 +73,5 @@ fill-spec =
     block-requires
     (λ c. omega (arith, c .before .before .before .before .least .ensures))
     loop-again
-    (λ c. c .before .loop .inv .1 .long)
-    (λ c. written-to (omega arith) (c .before .loop .inv .1)))
+    (λ c. c .before .loop .inv .2 .long)
+    (λ c. written-to (omega arith) (c .before .loop .inv .2)))
