@@ -1,5 +1,8 @@
 // The C boundary (include/giqapsun.h): each call takes and gives structs by value, with no logic of its own. The
 // answers' numbers and values are those of model's specs/Answers; specs/Boundary lays them out.
+use curve::Curve;
+use curve::Filled;
+use curve::Supplied;
 use model::Case;
 use model::Comparison;
 use model::HalfMills;
@@ -15,7 +18,9 @@ ghost use Rattle.model.specs.Refusals.{workLength};
 ghost use Rattle.model.specs.Answers.{readOf, writeOf, checkOf, scheduleOf};
 ghost use Rattle.model.specs.Compared.{comparedOf};
 ghost use Rattle.model.specs.Calendar.{calendarOf};
+ghost use Rattle.curve.specs.Cost.{suppliedOf};
 ghost use Rattle.giqapsun.specs.Boundary.{readingOut, writtenOut, verdictOut, planOut, choiceOut};
+ghost use Rattle.giqapsun.specs.Boundary.{filledNumber, tableBy, checkBy, scheduleBy};
 
 // The number of a refusal, or 0, and the record: zeros beside a refusal.
 #[repr(C)]
@@ -230,4 +235,75 @@ pub extern "C" fn giqapsun_best_by_calendar_4(
         (now (outputs .entry))) .outputs ⌝ }
 {
     plan_out(calendar::schedule_by_calendar(as_read(case), on, off, first, hours, work, outputs))
+}
+
+fn filled_number(filled: Filled) -> u8
+    ensures { λ r. ⌜ r ≡ filledNumber filled ⌝ }
+{
+    match filled {
+        Filled::Done => 0,
+        Filled::Refused(number) => number,
+    }
+}
+
+// The costs of a curve, told by the number of its kind, to the front of the lent numbers: 0, or the number of a
+// refusal, on which they stay as they are.
+#[no_mangle]
+pub extern "C" fn giqapsun_table_4(kind: u16, curve: Curve, table: &mut [i64]) -> u32
+    ensures answer { λ r. ⌜ r ≡ (tableBy (suppliedOf kind curve) (now (table .entry))) .answer ⌝ }
+    ensures table { λ _. ⌜ now (table .exit) ≡ (tableBy (suppliedOf kind curve) (now (table .entry))) .table ⌝ }
+{
+    let supplied = costs::kind_of(kind, curve);
+    let Supplied::Given(known) = supplied else {
+        return 16;
+    };
+    filled_number(costs::fill_table(known, table)) as u32
+}
+
+// The verdict of a list with a record, by a curve. The table is filled unless the call is refused.
+#[no_mangle]
+pub extern "C" fn giqapsun_check_by_curve_4(
+    case: Case,
+    kind: u16,
+    curve: Curve,
+    list: &[u16],
+    table: &mut [i64],
+) -> GiqapsunVerdict
+    ensures answer { λ r. ⌜ r ≡ verdictOut ((checkBy (suppliedOf kind curve) case (now (list .entry))
+        (now (table .entry))) .answer) ⌝ }
+    ensures table { λ _. ⌜ now (table .exit) ≡ (checkBy (suppliedOf kind curve) case (now (list .entry))
+        (now (table .entry))) .table ⌝ }
+{
+    let supplied = costs::kind_of(kind, curve);
+    let Supplied::Given(known) = supplied else {
+        return verdict_out(Verdict::Refused(16));
+    };
+    verdict_out(curves::check_by_curve(as_read(case), known, list, table))
+}
+
+// The best list of a record by a curve, in the first outputs; the table is filled and the first working numbers are
+// zeroed. Nothing is changed on 16, 2 to 8, 13 and 10.
+#[no_mangle]
+pub extern "C" fn giqapsun_best_by_curve_4(
+    case: Case,
+    kind: u16,
+    curve: Curve,
+    table: &mut [i64],
+    work: &mut [i64],
+    outputs: &mut [u16],
+) -> GiqapsunPlan
+    ensures answer { λ r. ⌜ r ≡ planOut ((scheduleBy (suppliedOf kind curve) case (now (table .entry))
+        (now (work .entry)) (now (outputs .entry))) .answer .answer) ⌝ }
+    ensures table { λ _. ⌜ now (table .exit) ≡ (scheduleBy (suppliedOf kind curve) case (now (table .entry))
+        (now (work .entry)) (now (outputs .entry))) .table ⌝ }
+    ensures work { λ _. ⌜ now (work .exit) ≡ (scheduleBy (suppliedOf kind curve) case (now (table .entry))
+        (now (work .entry)) (now (outputs .entry))) .answer .work ⌝ }
+    ensures outputs { λ _. ⌜ now (outputs .exit) ≡ (scheduleBy (suppliedOf kind curve) case (now (table .entry))
+        (now (work .entry)) (now (outputs .entry))) .answer .outputs ⌝ }
+{
+    let supplied = costs::kind_of(kind, curve);
+    let Supplied::Given(known) = supplied else {
+        return plan_out(Plan::Refused(16));
+    };
+    plan_out(curves::schedule_by_curve(as_read(case), known, table, work, outputs))
 }
