@@ -3,7 +3,7 @@
 //! stands the list that is lower at the first hour where two differ.
 
 use crate::case::Case;
-use crate::profit::profit;
+use crate::profit::{profit_by, Costs};
 use crate::rules::Day;
 
 /// A best list with its profit in half-mills.
@@ -22,13 +22,18 @@ fn largest_tried(case: &Case) -> u16 {
 
 /// Tries every list of T outputs from 0 to the capacity plus 1, lowest list first.
 pub fn every_list(case: &Case) -> Option<Plan> {
+    every_list_by(case, Costs::Plain)
+}
+
+/// The same with these costs.
+pub fn every_list_by(case: &Case, costs: Costs) -> Option<Plan> {
     let mut day = Day::new(case);
     let mut list = vec![0; case.t];
     let mut best = None;
     loop {
         day.set_list(&list);
         if day.first_breach().is_none() {
-            keep_better(&mut best, profit(case, &list), &list);
+            keep_better(&mut best, profit_by(case, costs, &list), &list);
         }
         if !advance(&mut list, largest_tried(case)) {
             return best;
@@ -69,6 +74,11 @@ fn keep_better(best: &mut Option<Plan>, profit: i64, list: &[u16]) {
 /// outputs up to hour k, and none of them need be tried. Of the lists that are left, those count whose
 /// last output gives the stop after T of the commitment.
 pub fn by_commitment(case: &Case) -> Option<Plan> {
+    by_commitment_by(case, Costs::Plain)
+}
+
+/// The same with these costs.
+pub fn by_commitment_by(case: &Case, costs: Costs) -> Option<Plan> {
     let mut day = Day::new(case);
     let mut list = vec![0; case.t];
     let mut best = None;
@@ -77,7 +87,7 @@ pub fn by_commitment(case: &Case) -> Option<Plan> {
         for closing in day.closings() {
             day.set_closing(closing);
             if day.broken_at(0).is_none() {
-                extend(case, &mut day, (on_line, closing), 1, &mut list, &mut best);
+                extend((case, costs), &mut day, (on_line, closing), 1, &mut list, &mut best);
             }
         }
     }
@@ -89,7 +99,7 @@ type Commitment = (u64, Option<usize>);
 
 /// Tries every output of hour k within the commitment, and goes on where no rule breaks.
 fn extend(
-    case: &Case,
+    (case, costs): (&Case, Costs),
     day: &mut Day,
     commitment: Commitment,
     k: usize,
@@ -99,7 +109,7 @@ fn extend(
     let (on_line, closing) = commitment;
     if k > case.t {
         if day.closing() == closing && day.first_breach_from(k as i64).is_none() {
-            keep_better(best, profit(case, list), list);
+            keep_better(best, profit_by(case, costs, list), list);
         }
         return;
     }
@@ -109,7 +119,7 @@ fn extend(
         day.set_output(k, output);
         list[k - 1] = output;
         if day.broken_at(k as i64).is_none() {
-            extend(case, day, commitment, k + 1, list, best);
+            extend((case, costs), day, commitment, k + 1, list, best);
         }
     }
 }

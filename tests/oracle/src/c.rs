@@ -1,9 +1,11 @@
 //! The structs of the C boundary, and the answers of the independent scheduler as C calls, for the fuzz target.
 
 use crate::answers;
+use crate::by_curve;
 use crate::calendar::Calendar;
 use crate::case::Case;
-use crate::dp::best_list;
+use crate::curve::{self, Curve};
+use crate::dp::{best_list, best_list_by};
 use crate::pair;
 use std::slice;
 
@@ -144,4 +146,62 @@ pub unsafe extern "C" fn oracle_better(
         (slice::from_raw_parts(first, first_count), slice::from_raw_parts(second, second_count));
     let pair::Choice { number, which, profit } = pair::choice(&case, first, second);
     Choice { number, which, profit }
+}
+
+/// Fills the table of a curve.
+///
+/// # Safety
+///
+/// So many numbers can be written.
+#[no_mangle]
+pub unsafe extern "C" fn oracle_table(kind: u16, curve: Curve, table: *mut i64, count: usize) -> u32 {
+    let (number, costs) = curve::filling(kind, &curve, count);
+    slice::from_raw_parts_mut(table, count)[..costs.len()].copy_from_slice(&costs);
+    number
+}
+
+/// Checks a list of outputs by a curve.
+///
+/// # Safety
+///
+/// So many outputs can be read, and so many numbers written.
+#[no_mangle]
+pub unsafe extern "C" fn oracle_check_by_curve(
+    case: Case,
+    kind: u16,
+    curve: Curve,
+    list: *const u16,
+    count: usize,
+    table: *mut i64,
+    table_count: usize,
+) -> Verdict {
+    let list = slice::from_raw_parts(list, count);
+    let filled = by_curve::verdict(&case, kind, &curve, list, table_count);
+    slice::from_raw_parts_mut(table, table_count)[..filled.table.len()].copy_from_slice(&filled.table);
+    let answers::Verdict { number, hour, rule, profit } = filled.answer;
+    Verdict { number, hour, rule, profit }
+}
+
+/// Finds the best list of outputs by a curve, as if so many numbers were lent to work in.
+///
+/// # Safety
+///
+/// So many numbers of the table, and so many outputs, can be written.
+#[no_mangle]
+pub unsafe extern "C" fn oracle_best_by_curve(
+    case: Case,
+    kind: u16,
+    curve: Curve,
+    table: *mut i64,
+    table_count: usize,
+    numbers: usize,
+    outputs: *mut u16,
+    count: usize,
+) -> Plan {
+    let lent = by_curve::Lent { table: table_count, numbers, outputs: count };
+    let filled = by_curve::schedule(&case, kind, &curve, lent, best_list_by);
+    slice::from_raw_parts_mut(table, table_count)[..filled.table.len()].copy_from_slice(&filled.table);
+    let answer = filled.answer;
+    slice::from_raw_parts_mut(outputs, count)[..answer.list.len()].copy_from_slice(&answer.list);
+    Plan { number: answer.number, profit: answer.profit }
 }

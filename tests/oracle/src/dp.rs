@@ -1,11 +1,11 @@
 //! The best list of a full-size day by a dynamic programme. It renders the source's section II-A
 //! in words instead of constraints: a unit is off-line, on its start-up trajectory, on-line between
 //! minimum output and capacity, or on its shut-down trajectory; a day may open and close in any of these
-//! (request F-5). It must be held against `best`.
+//! (request F-5), and its hours may cost what a table says (request F-7). It must be held against `best`.
 
 use crate::best::Plan;
 use crate::case::{Case, MOST_STAGES, OFF_LINE, ON_LINE};
-use crate::profit::hour_profit;
+use crate::profit::{hour_profit, Costs};
 use crate::random::Rng;
 use crate::refusals::LONGEST_TIME;
 use std::collections::VecDeque;
@@ -135,19 +135,19 @@ impl Values {
     }
 
     /// The values at the end of hour k - 1, from those at the end of hour k.
-    fn before(case: &Case, k: usize, after: &Values) -> Values {
+    fn before(case: &Case, costs: Costs, k: usize, after: &Values) -> Values {
         let mut values = Values::filled(case, None);
         for state in states_beside(case) {
-            values.set(state, value_before(case, k, state, after));
+            values.set(state, value_before(case, costs, k, state, after));
         }
         let needed = hours_before_fall(case);
         for hours in 1..=needed {
-            let on_line = values_on_line(case, k, (hours + 1).min(needed), after);
+            let on_line = values_on_line(case, costs, k, (hours + 1).min(needed), after);
             let row = values.place(hours, case.minimum);
             values.on[row..row + on_line.len()].copy_from_slice(&on_line);
         }
         let lowest = State::On(needed, case.minimum);
-        let falls = value_of_step(case, k, lowest, stop_stage(case, 2), after);
+        let falls = value_of_step(case, costs, k, (lowest, stop_stage(case, 2)), after);
         values.set(lowest, values.get(lowest).max(falls));
         values
     }
@@ -192,38 +192,65 @@ fn keeps_order(case: &Case, k: usize, output: u16) -> bool {
 }
 
 /// What the hours from k on earn if hour k goes from one state to the other.
-fn value_of_step(case: &Case, k: usize, from: State, to: State, after: &Values) -> Option<i64> {
+fn value_of_step(
+    case: &Case,
+    costs: Costs,
+    k: usize,
+    (from, to): (State, State),
+    after: &Values,
+) -> Option<i64> {
     let (before, now) = (output(case, from), output(case, to));
     if !keeps_order(case, k, now) {
         return None;
     }
-    after.get(to).map(|rest| hour_profit(case, k, before, now) + rest)
+    after.get(to).map(|rest| hour_profit(case, costs, k, before, now) + rest)
 }
 
 /// The most that the hours from k on can earn from a state at the end of hour k - 1.
-fn value_before(case: &Case, k: usize, from: State, after: &Values) -> Option<i64> {
+fn value_before(case: &Case, costs: Costs, k: usize, from: State, after: &Values) -> Option<i64> {
     let mut best = None;
-    for_each_next(case, from, |to| best = best.max(value_of_step(case, k, from, to, after)));
+    for_each_next(case, from, |to| best = best.max(value_of_step(case, costs, k, (from, to), after)));
     best
 }
 
 /// The most that the hours from k on can earn from each on-line output at the end of hour k - 1, if the unit
 /// stays on-line between minimum output and capacity in hour k, which is then the on-line hour of this
 /// number.
+fn values_on_line(case: &Case, costs: Costs, k: usize, hours: usize, after: &Values) -> Vec<Option<i64>> {
+    if !keeps_order(case, k, case.minimum) {
+        return vec![None; after.outputs];
+    }
+    let row = after.place(hours, case.minimum);
+    let rest = &after.on[row..row + after.outputs];
+    match costs {
+        Costs::Plain => by_two_parts(case, k, rest),
+        Costs::Table(_) => by_every_pair(case, costs, k, rest),
+    }
+}
+
+/// The values on-line by a table: every pair of outputs that the ramps allow is tried.
+fn by_every_pair(case: &Case, costs: Costs, k: usize, rest: &[Option<i64>]) -> Vec<Option<i64>> {
+    let (below, above) = (usize::from(case.ramp_down), usize::from(case.ramp_up));
+    let values = (case.minimum..=case.capacity).zip(0usize..).map(|(before, place)| {
+        let (low, high) = (place.saturating_sub(below), (place + above).min(rest.len() - 1));
+        let outputs = rest[low..=high].iter().zip(case.minimum + low as u16..);
+        outputs.filter_map(|(&rest, now)| Some(rest? + hour_profit(case, costs, k, before, now))).max()
+    });
+    values.collect()
+}
+
+/// The values on-line by F and A.
 ///
 /// What hour k earns from one output to another is a sum of two parts, one of each output alone: from an
 /// output to the minimum, and the margin for each megawatt above it. So the most of the second part and of
 /// what the rest earns is found once for every output that the ramps lead to, by `most_about`.
-fn values_on_line(case: &Case, k: usize, hours: usize, after: &Values) -> Vec<Option<i64>> {
-    if !keeps_order(case, k, case.minimum) {
-        return vec![None; after.outputs];
-    }
+fn by_two_parts(case: &Case, k: usize, rest: &[Option<i64>]) -> Vec<Option<i64>> {
     let margin = i64::from(case.prices[k - 1]) - i64::from(case.f);
-    let row = after.place(hours, case.minimum);
-    let rest = after.on[row..row + after.outputs].iter().zip(0..);
-    let gains: Vec<Option<i64>> = rest.map(|(rest, above)| rest.map(|rest| rest + margin * above)).collect();
+    let places = rest.iter().zip(0..);
+    let gains: Vec<Option<i64>> =
+        places.map(|(rest, above)| rest.map(|rest| rest + margin * above)).collect();
     let most = most_about(&gains, case.ramp_down.into(), case.ramp_up.into());
-    let to_minimum = |before: u16| hour_profit(case, k, before, case.minimum);
+    let to_minimum = |before: u16| hour_profit(case, Costs::Plain, k, before, case.minimum);
     most.into_iter().zip(case.minimum..).map(|(gain, before)| Some(gain? + to_minimum(before))).collect()
 }
 
@@ -250,10 +277,10 @@ fn most_about(gains: &[Option<i64>], below: usize, above: usize) -> Vec<Option<i
 }
 
 /// The values at the ends of hours 0 to T.
-fn all_values(case: &Case) -> Vec<Values> {
+fn all_values(case: &Case, costs: Costs) -> Vec<Values> {
     let mut backwards = vec![Values::at_end(case)];
     for k in (1..=case.t).rev() {
-        let values = Values::before(case, k, &backwards[case.t - k]);
+        let values = Values::before(case, costs, k, &backwards[case.t - k]);
         backwards.push(values);
     }
     backwards.reverse();
@@ -263,13 +290,19 @@ fn all_values(case: &Case) -> Vec<Values> {
 /// The lists that keep every rule of a case. The case has passed the refusals.
 pub struct KeptLists<'a> {
     case: &'a Case,
+    costs: Costs<'a>,
     values: Vec<Values>,
 }
 
 impl<'a> KeptLists<'a> {
-    /// The lists of this case.
+    /// The lists of this case, with F and A for its costs.
     pub fn new(case: &'a Case) -> KeptLists<'a> {
-        KeptLists { case, values: all_values(case) }
+        KeptLists::by(case, Costs::Plain)
+    }
+
+    /// The lists of this case with these costs.
+    pub fn by(case: &'a Case, costs: Costs<'a>) -> KeptLists<'a> {
+        KeptLists { case, costs, values: all_values(case, costs) }
     }
 
     /// The best list with its profit, the lowest list among equal earners; none if no list keeps every
@@ -307,7 +340,8 @@ impl<'a> KeptLists<'a> {
     fn steps(&self, k: usize, from: State) -> Vec<Step> {
         let mut steps = Vec::new();
         for_each_next(self.case, from, |to| {
-            steps.extend(value_of_step(self.case, k, from, to, &self.values[k]).map(|value| (to, value)));
+            let value = value_of_step(self.case, self.costs, k, (from, to), &self.values[k]);
+            steps.extend(value.map(|value| (to, value)));
         });
         steps
     }
@@ -319,5 +353,10 @@ type Step = (State, i64);
 /// The best list with its profit, the lowest list among equal earners; none if no list keeps every
 /// rule. The case has passed the refusals.
 pub fn best_list(case: &Case) -> Option<Plan> {
-    KeptLists::new(case).best()
+    best_list_by(case, Costs::Plain)
+}
+
+/// The same with these costs.
+pub fn best_list_by(case: &Case, costs: Costs) -> Option<Plan> {
+    KeptLists::by(case, costs).best()
 }

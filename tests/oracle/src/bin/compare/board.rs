@@ -5,6 +5,7 @@ use crate::calls::{Call, Input, Name, Pair, Windows};
 use crate::guard::{shared_bytes, Placement};
 use crate::kinds::Counts;
 use oracle::case::Case;
+use oracle::curves::Drawn;
 use std::sync::atomic::{AtomicU64, Ordering};
 
 /// Most bytes of a file and most numbers of a list that are kept; longer ones are kept in part.
@@ -21,7 +22,7 @@ pub struct Tally {
     /// Verdicts by rule broken first, those broken at hour 0, and refusals by number.
     pub breaches: [u64; 24],
     pub at_hour_0: u64,
-    pub refusals: [u64; 16],
+    pub refusals: [u64; 17],
     /// What was met, by kind.
     pub kinds: Counts,
     /// Nanoseconds spent in the library.
@@ -33,6 +34,7 @@ pub struct Tally {
 struct Kept {
     name: Name,
     place: Placement,
+    table: usize,
     work: usize,
     lent: usize,
     case: Option<Case>,
@@ -43,6 +45,19 @@ struct Kept {
     begins: Option<usize>,
     /// First hour and number of hours of the day whose windows the pair is.
     day: Option<(u16, u16)>,
+    curve: Option<Drawn>,
+}
+
+impl Kept {
+    /// The input of a call that was made with a curve, and with this list if with one.
+    fn input_by_curve<'a>(&'a self, list: &'a [u16]) -> Input<'a> {
+        let drawn = self.curve.expect("the call was made with a curve");
+        match (&self.case, self.list) {
+            (None, _) => Input::Curve(drawn),
+            (Some(case), None) => Input::ByCurve(case, drawn),
+            (Some(case), Some(_)) => Input::ListByCurve(case, drawn, list),
+        }
+    }
 }
 
 /// An input by its parts.
@@ -54,6 +69,7 @@ struct Parts<'a> {
     second: Option<&'a [u16]>,
     begins: Option<usize>,
     day: Option<(u16, u16)>,
+    curve: Option<Drawn>,
 }
 
 impl<'a> Parts<'a> {
@@ -66,6 +82,11 @@ impl<'a> Parts<'a> {
             Input::Pair(case, pair) => Parts::of_pair(case, pair),
             Input::Calendar(case, Windows { lists, first, hours }) => {
                 Parts { day: Some((first, hours)), ..Parts::of_pair(case, lists) }
+            }
+            Input::Curve(drawn) => Parts { curve: Some(drawn), ..Parts::default() },
+            Input::ByCurve(case, drawn) => Parts { case: Some(case), curve: Some(drawn), ..Parts::default() },
+            Input::ListByCurve(case, drawn, list) => {
+                Parts { case: Some(case), list: Some(list), curve: Some(drawn), ..Parts::default() }
             }
         }
     }
@@ -132,10 +153,11 @@ impl Board {
 
     /// Says that a call is made.
     pub fn enter(&self, call: &Call) {
-        let Parts { case, bytes, list, second, begins, day } = Parts::of(&call.input);
+        let Parts { case, bytes, list, second, begins, day, curve } = Parts::of(&call.input);
         let kept = Kept {
             name: call.name,
             place: call.place,
+            table: call.table,
             work: call.work,
             lent: call.lent,
             case: case.copied(),
@@ -144,6 +166,7 @@ impl Board {
             second: second.map(|list| list.len().min(MOST_NUMBERS)),
             begins,
             day,
+            curve,
         };
         // SAFETY: as for the counts; what is copied has room.
         unsafe {
@@ -194,6 +217,7 @@ impl Board {
         let second = &shared.second[..kept.second.unwrap_or(0)];
         let lists = Pair { first: list, second, begins: kept.begins };
         let input = match (&kept.case, kept.list, kept.second, kept.day) {
+            _ if kept.curve.is_some() => kept.input_by_curve(list),
             (None, _, _, _) => Input::File(&shared.bytes[..kept.bytes]),
             (Some(case), None, _, _) => Input::Case(case),
             (Some(case), Some(_), None, _) => Input::List(case, list),
@@ -202,7 +226,7 @@ impl Board {
                 Input::Calendar(case, Windows { lists, first, hours })
             }
         };
-        let Kept { name, place, work, lent, .. } = *kept;
-        Some(Call { name, place, work, lent, input })
+        let Kept { name, place, table, work, lent, .. } = *kept;
+        Some(Call { name, place, table, work, lent, input })
     }
 }

@@ -3,6 +3,7 @@
 
 use oracle::c::{Choice, Plan, Reading, Verdict, Written};
 use oracle::case::Case;
+use oracle::curve::Curve;
 
 extern "C" {
     /// Reads a case from the bytes of a file.
@@ -56,4 +57,34 @@ extern "C" {
         second: *const u16,
         second_count: usize,
     ) -> Choice;
+
+    /// Fills the table of a curve.
+    #[link_name = "giqapsun_table_4"]
+    pub fn giqapsun_table(kind: u16, curve: Curve, table: *mut i64, table_count: usize) -> u32;
+
+    /// Checks a list of outputs by a curve.
+    #[link_name = "giqapsun_check_by_curve_4"]
+    pub fn giqapsun_check_by_curve(
+        case: Case,
+        kind: u16,
+        curve: Curve,
+        list: *const u16,
+        count: usize,
+        table: *mut i64,
+        table_count: usize,
+    ) -> Verdict;
+
+    /// Finds the best list of outputs by a curve.
+    #[link_name = "giqapsun_best_by_curve_4"]
+    pub fn giqapsun_best_by_curve(
+        case: Case,
+        kind: u16,
+        curve: Curve,
+        table: *mut i64,
+        table_count: usize,
+        work: *mut i64,
+        work_count: usize,
+        outputs: *mut u16,
+        outputs_count: usize,
+    ) -> Plan;
 }

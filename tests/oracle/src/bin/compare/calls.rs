@@ -1,16 +1,19 @@
-//! Each of the seven calls, made twice in guarded memory filled with random numbers, and compared with
+//! Each of the ten calls, made twice in guarded memory filled with random numbers, and compared with
 //! the answer of the independent scheduler: the answer itself and every lent number.
 
 use crate::board::Board;
 use crate::boundary::{
-    giqapsun_best, giqapsun_best_by_calendar, giqapsun_better, giqapsun_check, giqapsun_read, giqapsun_work,
-    giqapsun_write,
+    giqapsun_best, giqapsun_best_by_calendar, giqapsun_best_by_curve, giqapsun_better, giqapsun_check,
+    giqapsun_check_by_curve, giqapsun_read, giqapsun_table, giqapsun_work, giqapsun_write,
 };
 use crate::guard::{Lent, Placement, Region, PLACEMENTS};
 use oracle::answers::{self, Reading, Schedule, Verdict};
+use oracle::by_curve::{self, Filled};
 use oracle::c::Plan;
 use oracle::calendar::Calendar;
 use oracle::case::Case;
+use oracle::curve;
+use oracle::curves::Drawn;
 use oracle::pair::{self, Choice, Outcome};
 use oracle::random::Rng;
 use std::fmt::Debug;
@@ -26,6 +29,9 @@ pub enum Name {
     Best,
     ByCalendar,
     Better,
+    Table,
+    CheckByCurve,
+    BestByCurve,
     Independent,
 }
 
@@ -40,6 +46,9 @@ impl Name {
             Name::Best => "best",
             Name::ByCalendar => "best_by_calendar",
             Name::Better => "better",
+            Name::Table => "table",
+            Name::CheckByCurve => "check_by_curve",
+            Name::BestByCurve => "best_by_curve",
             Name::Independent => "independent",
         }
     }
@@ -53,6 +62,32 @@ pub enum Input<'a> {
     List(&'a Case, &'a [u16]),
     Pair(&'a Case, Pair<'a>),
     Calendar(&'a Case, Windows<'a>),
+    Curve(Drawn),
+    ByCurve(&'a Case, Drawn),
+    ListByCurve(&'a Case, Drawn, &'a [u16]),
+}
+
+impl<'a> Input<'a> {
+    /// The case, if there is one.
+    pub fn case(&self) -> Option<&'a Case> {
+        match *self {
+            Input::File(_) | Input::Curve(_) => None,
+            Input::Case(case)
+            | Input::List(case, _)
+            | Input::Pair(case, _)
+            | Input::Calendar(case, _)
+            | Input::ByCurve(case, _)
+            | Input::ListByCurve(case, _, _) => Some(case),
+        }
+    }
+
+    /// The curve, if there is one.
+    pub fn curve(&self) -> Option<Drawn> {
+        match *self {
+            Input::Curve(drawn) | Input::ByCurve(_, drawn) | Input::ListByCurve(_, drawn, _) => Some(drawn),
+            _ => None,
+        }
+    }
 }
 
 /// A calendar: the on-line windows first and the off-line ones second, and the first hour of the day with its number of
@@ -121,7 +156,8 @@ impl<'a> Pair<'a> {
 pub struct Call<'a> {
     pub name: Name,
     pub input: Input<'a>,
-    /// Numbers lent to work in, and bytes or outputs lent.
+    /// Numbers lent for a table and to work in, and bytes or outputs lent.
+    pub table: usize,
     pub work: usize,
     pub lent: usize,
     pub place: Placement,
@@ -130,12 +166,12 @@ pub struct Call<'a> {
 impl<'a> Call<'a> {
     /// A call that is lent no numbers to work in, before it is placed.
     pub fn new(name: Name, input: Input<'a>, lent: usize) -> Call<'a> {
-        Call { name, input, work: 0, lent, place: Placement::EndsAtGuard }
+        Call { name, input, table: 0, work: 0, lent, place: Placement::EndsAtGuard }
     }
 
     /// The call in words.
     pub fn words(&self) -> String {
-        let (lent, place) = (self.lent, self.place.words());
+        let (table, lent, place) = (self.table, self.lent, self.place.words());
         match self.name {
             Name::Read => format!("giqapsun_read of {lent} bytes {place}"),
             Name::Write => format!("giqapsun_write into {lent} bytes {place}"),
@@ -156,6 +192,15 @@ impl<'a> Call<'a> {
                 Input::Pair(_, pair) => format!("giqapsun_better of {}", pair.words("outputs", place)),
                 _ => unreachable!("two lists are compared"),
             },
+            Name::Table => format!("giqapsun_table into {table} numbers {place}"),
+            Name::CheckByCurve => {
+                format!("giqapsun_check_by_curve of {lent} outputs, with {table} numbers of a table, each {place}")
+            }
+            Name::BestByCurve => format!(
+                "giqapsun_best_by_curve with {table} numbers of a table, {} to work in and {lent} outputs, \
+                 each {place}",
+                self.work
+            ),
             Name::Independent => "none: the independent scheduler disagrees with itself".to_string(),
         }
     }
@@ -174,6 +219,7 @@ pub struct Memory {
     first: Region,
     second: Region,
     cases: Region,
+    table: Region,
     work: Region,
     noise: Rng,
     board: Board,
@@ -190,6 +236,7 @@ impl Memory {
             first: Region::new(7),
             second: Region::new(4),
             cases: Region::new(1),
+            table: Region::new(1),
             work: Region::new(5),
             noise: Rng::for_index(0, 0),
             board,
@@ -358,6 +405,106 @@ impl Memory {
             as_wanted(&call, "the case", &record, &[])?;
         }
         Ok(outcome)
+    }
+
+    /// Compares filling the table of a curve in so many lent numbers.
+    pub fn fill<'a>(&mut self, drawn: Drawn, count: usize) -> Result<u32, Difference<'a>> {
+        let (kind, curve) = drawn;
+        let (number, wanted) = curve::filling(kind, &curve, count);
+        for place in PLACEMENTS {
+            let call = Call { table: count, place, ..Call::new(Name::Table, Input::Curve(drawn), 0) };
+            let table = self.lend_table(&call);
+            // SAFETY: pointer and count are those of the lent slice.
+            let given =
+                self.made(&call, || unsafe { giqapsun_table(kind, curve, table.pointer(), table.count()) });
+            same(&call, given, number)?;
+            as_wanted(&call, "the table", &table, &wanted)?;
+        }
+        Ok(number)
+    }
+
+    /// Compares the check of a list by a curve with so many numbers lent for the table; the case is taken from guarded
+    /// memory too.
+    pub fn check_by_curve<'a>(
+        &mut self,
+        case: &'a Case,
+        drawn: Drawn,
+        list: &'a [u16],
+        count: usize,
+    ) -> Result<Verdict, Difference<'a>> {
+        let (kind, curve) = drawn;
+        let expected = by_curve::verdict(case, kind, &curve, list, count);
+        for place in PLACEMENTS {
+            let input = Input::ListByCurve(case, drawn, list);
+            let call = Call { table: count, place, ..Call::new(Name::CheckByCurve, input, list.len()) };
+            let record = self.cases.lend(&[*case], place, &mut self.noise);
+            let table = self.lend_table(&call);
+            let lent = self.first.lend(list, place, &mut self.noise);
+            // SAFETY: pointers and counts are those of the lent slices, and the record is a lent one.
+            let raw = self.made(&call, || unsafe {
+                let (outputs, costs) = ((lent.pointer(), lent.count()), (table.pointer(), table.count()));
+                giqapsun_check_by_curve(
+                    *record.pointer(),
+                    kind,
+                    curve,
+                    outputs.0,
+                    outputs.1,
+                    costs.0,
+                    costs.1,
+                )
+            });
+            let (number, hour, rule, profit) = (raw.number, raw.hour, raw.rule, raw.profit);
+            same(&call, Verdict { number, hour, rule, profit }, expected.answer)?;
+            as_wanted(&call, "the list", &lent, &[])?;
+            as_wanted(&call, "the table", &table, &expected.table)?;
+            as_wanted(&call, "the case", &record, &[])?;
+        }
+        Ok(expected.answer)
+    }
+
+    /// Compares the search by a curve in this memory with the expected schedule and table; the case is taken from
+    /// guarded memory too.
+    pub fn best_by_curve<'a>(
+        &mut self,
+        case: &'a Case,
+        drawn: Drawn,
+        lent: by_curve::Lent,
+        expected: &Filled<Schedule>,
+    ) -> Result<(), Difference<'a>> {
+        let (kind, curve) = drawn;
+        for place in PLACEMENTS {
+            let call = Call {
+                table: lent.table,
+                work: lent.numbers,
+                place,
+                ..Call::new(Name::BestByCurve, Input::ByCurve(case, drawn), lent.outputs)
+            };
+            let record = self.cases.lend(&[*case], place, &mut self.noise);
+            let table = self.lend_table(&call);
+            // SAFETY: pointers and counts are those of the lent slices, and the record is a lent one.
+            self.search(&call, case, &expected.answer, |work, list| unsafe {
+                giqapsun_best_by_curve(
+                    *record.pointer(),
+                    kind,
+                    curve,
+                    table.pointer(),
+                    table.count(),
+                    work.pointer(),
+                    work.count(),
+                    list.pointer(),
+                    list.count(),
+                )
+            })?;
+            as_wanted(&call, "the table", &table, &expected.table)?;
+            as_wanted(&call, "the case", &record, &[])?;
+        }
+        Ok(())
+    }
+
+    /// Lends the numbers of a table, filled at random.
+    fn lend_table(&mut self, call: &Call) -> Lent<i64> {
+        let noise: Vec<i64> = (0..call.table).map(|_| self.noise.bits() as i64).collect();
+        self.table.lend(&noise, call.place, &mut self.noise)
     }
 
     /// Lends two lists, and says where in the memory of the second the list begins. In one memory, both are that

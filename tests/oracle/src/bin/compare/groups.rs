@@ -7,15 +7,19 @@ use crate::report::Named;
 use crate::run::Run;
 use crate::wishes::named;
 use oracle::answers::{self, Schedule, Verdict};
-use oracle::best::{by_commitment, every_list, Plan};
+use oracle::best::{by_commitment, every_list, every_list_by, Plan};
+use oracle::by_curve::{self, Lent};
 use oracle::calendar::{self, Calendar};
 use oracle::calendars::{drawn, Drawn, Size};
 use oracle::case::{Case, MOST_HOURS};
+use oracle::curve::{faults, filling, COSTS};
+use oracle::curves::{any, of_case, Drawn as DrawnCurve};
 use oracle::damage::damaged_file;
 use oracle::days::{self, Answer, KnownDay, Question};
-use oracle::dp::{best_list, KeptLists};
+use oracle::dp::{best_list, best_list_by, KeptLists};
 use oracle::file;
 use oracle::known_calendars::{self, known_calendars};
+use oracle::known_curves::{self, known_entries, known_faults};
 use oracle::known_files::{self, known_files};
 use oracle::known_pairs::{self, known_pairs};
 use oracle::known_prices::{self, known_prices};
@@ -24,6 +28,7 @@ use oracle::known_weeks::{self, known_asked, known_searches, known_weeks};
 use oracle::lists::{any_list, disturb_ends, wild_list};
 use oracle::pair;
 use oracle::pairs::{case_of_pairs, Pairs};
+use oracle::profit::Costs;
 use oracle::random::Rng;
 use oracle::refusals;
 use oracle::stages::{full_staged, longer_staged, small_staged};
@@ -56,7 +61,7 @@ impl Group {
 }
 
 /// All groups in the order in which they run.
-pub const GROUPS: [Group; 30] = [
+pub const GROUPS: [Group; 35] = [
     group("known-days", 13, known_day, "the known days, all calls, every list checked"),
     group("known-prices", known_prices::COUNT, known_price, "known days below zero and at the limits"),
     group("source-day", 4, source_day, "the source's day, and its rows of 48, 96 and 168 hours"),
@@ -120,6 +125,23 @@ pub const GROUPS: [Group; 30] = [
     group("locked-lists", 2_500, locked_lists, "ten lists of such a day or week, checked")
         .of_every(Family::LockedList),
     group("lent-numbers", 700, lent_numbers, "8,191 to 32,769 numbers to work in").of_every(Family::Lent),
+    group(
+        "known-curves",
+        known_curves::ENTRIES + known_curves::FAULTS,
+        known_curve,
+        "entries of tables and faults of curves",
+    ),
+    group("curves", 6_000, curves, "the tables of random curves, and curves with a fault")
+        .of_every(Family::Curve),
+    group("known-curve-days", known_curves::DAYS, known_curve_day, "known days by a curve"),
+    group(
+        "curve-days",
+        8_000,
+        curve_days,
+        "days, records and lists by a curve, every list of small units tried",
+    )
+    .of_every(Family::CurveDay),
+    group("curve-full-days", 240, curve_full_days, "days up to 400 MW by a curve, by the dynamic programme"),
 ];
 
 /// Most lists of a unit that are all put through the check.
@@ -642,12 +664,200 @@ fn lent_numbers(run: &mut Run, index: u64) {
     }
 }
 
-/// Runs one file again: reading, and if it is accepted, all calls, lengths and many lists, those that are named too.
-pub fn one_file(run: &mut Run, bytes: &[u8], lists: &[Named]) {
+/// A known entry of a table, or a known fault: the row's own answer, then the table.
+fn known_curve(run: &mut Run, index: u64) {
+    let (entries, place) = (known_entries(), index as usize);
+    let drawn = match entries.get(place) {
+        Some(row) => {
+            let cost = faults(row.kind, &row.curve).map(|tested| tested.cost(row.n));
+            run.independent(&Case::ZERO, &cost.ok(), &Some(row.cost));
+            (row.kind, row.curve)
+        }
+        None => {
+            let (kind, curve, fault) = known_faults()[place - entries.len()];
+            run.independent(&Case::ZERO, &faults(kind, &curve).err(), &fault);
+            (kind, curve)
+        }
+    };
+    run.fill(drawn, COSTS);
+}
+
+/// The table of a random curve, mostly in just enough memory.
+fn curves(run: &mut Run, _index: u64) {
+    let mut rng = run.rng();
+    let drawn = any(&mut rng);
+    let lent = lent_table(&mut rng);
+    run.fill(drawn, lent);
+}
+
+/// Numbers to lend for a table: just enough, more, or short.
+fn lent_table(rng: &mut Rng) -> usize {
+    match rng.below(16) {
+        0 => 0,
+        1 => COSTS - 1,
+        2 => COSTS + 1,
+        3 => rng.place(1, 6_000),
+        _ => COSTS,
+    }
+}
+
+/// A known day by a curve: the row's own answer, then the call.
+fn known_curve_day(run: &mut Run, index: u64) {
+    let known_curves::KnownDay { case, kind, curve, question, filled } =
+        known_curves::known_days().swap_remove(index as usize);
+    let table = match question {
+        known_curves::Question::Check(list, lent, answer) => {
+            let given = by_curve::verdict(&case, kind, &curve, &list, lent);
+            run.independent(&case, &given.answer, &answer);
+            run.check_by_curve(&case, (kind, curve), &list, lent);
+            given.table
+        }
+        known_curves::Question::Best(lent, answer) => {
+            let given = by_curve::schedule(&case, kind, &curve, lent, best_list_by);
+            run.independent(&case, &given.answer, &answer);
+            run.best_by_curve(&case, (kind, curve), lent, &given, None);
+            given.table
+        }
+    };
+    run.independent(&case, &!table.is_empty(), &filled);
+}
+
+/// A day by a curve: mostly a small unit, every list tried once in four times; once in eight times a record at or past
+/// its limits by any curve.
+fn curve_days(run: &mut Run, index: u64) {
+    let mut rng = run.rng();
+    if index % 8 == 7 {
+        return wild_by_curve(run, &mut rng);
+    }
+    let mut case = match index % 8 {
+        0 | 1 => small_unit(&mut rng),
+        2 => small_staged(&mut rng),
+        3 => small_locked(&mut rng),
+        4 => longer_day(&mut rng),
+        5 => smaller_unit(&mut rng),
+        _ if index % 400 == 6 => Case { t: 6, ..limit_day(&mut rng) },
+        _ => long_day(&mut rng),
+    };
+    let drawn = of_case(&mut rng, &case);
+    if rng.once_in(10) {
+        (case.f, case.a) = (1_000_000, 100_000_000);
+    }
+    by_curve_and_check(run, &case, drawn, &mut rng);
+    let table = filling(drawn.0, &drawn.1, COSTS).1;
+    if index % 32 < 2 {
+        let costs = Costs::Table(&table);
+        run.independent(&case, &best_list_by(&case, costs), &every_list_by(&case, costs));
+    }
+}
+
+/// A full-size day by a curve, some of them weeks, and with the largest capacity.
+fn curve_full_days(run: &mut Run, index: u64) {
+    let mut rng = run.rng();
+    let case = match index % 24 {
+        0 => full_week(&mut rng),
+        1 => limit_day(&mut rng),
+        2..=5 => full_staged(&mut rng),
+        6..=9 => locked_week(&mut rng),
+        _ => full_day(&mut rng),
+    };
+    let drawn = of_case(&mut rng, &case);
+    by_curve_and_check(run, &case, drawn, &mut rng);
+}
+
+/// A case by a curve that is accepted, in just enough memory and in other memory; its best list, one beside it, one
+/// that keeps the rules and any are checked.
+fn by_curve_and_check(run: &mut Run, case: &Case, drawn: DrawnCurve, rng: &mut Rng) {
+    let table = filling(drawn.0, &drawn.1, COSTS).1;
+    let kept = KeptLists::by(case, Costs::Table(&table));
+    let found = kept.best();
+    let asked = answers::work(case);
+    let enough = Lent { table: COSTS, numbers: asked, outputs: case.t };
+    let plain = answers::schedule(case, asked, case.t, best_list);
+    let expected = by_curve::schedule(case, drawn.0, &drawn.1, enough, |_, _| found.clone());
+    run.best_by_curve(case, drawn, enough, &expected, Some(&plain));
+    let other = memory_by_curve(rng, enough);
+    let answer = by_curve::schedule(case, drawn.0, &drawn.1, other, |_, _| found.clone());
+    run.best_by_curve(case, drawn, other, &answer, None);
+    let list = kept.draw(rng, &[]).unwrap_or_else(|| any_list(rng, case));
+    let mut beside = expected.answer.list.clone();
+    if beside.is_empty() {
+        beside = list.clone();
+    }
+    disturb_ends(rng, case, &mut beside);
+    for list in [&expected.answer.list, &list, &beside, &any_list(rng, case), &wild_list(rng, case)] {
+        let lent = lent_table(rng);
+        run.check_by_curve(case, drawn, list, lent);
+    }
+}
+
+/// Memory to lend a search by a curve: more of each, or one or all of them short.
+fn memory_by_curve(rng: &mut Rng, enough: Lent) -> Lent {
+    let Lent { table, numbers, outputs } = enough;
+    match rng.below(8) {
+        0 => Lent { table: rng.pick(&[0, 800]), ..enough },
+        1 => Lent { numbers: rng.pick(&[0, numbers - 1]), ..enough },
+        2 => Lent { outputs: rng.pick(&[0, outputs - 1]), ..enough },
+        3 => Lent { table: 800, numbers: numbers - 1, outputs: outputs - 1 },
+        _ => Lent {
+            table: table + rng.place(0, 100),
+            numbers: numbers + rng.place(0, 100),
+            outputs: outputs + rng.place(0, 30),
+        },
+    }
+}
+
+/// A record at or past its limits by any curve, in memory of random length.
+fn wild_by_curve(run: &mut Run, rng: &mut Rng) {
+    let (case, drawn) = (wild_record(rng), any(rng));
+    let t = if case.t <= 2 * MOST_HOURS { case.t } else { rng.place(0, 2 * MOST_HOURS) };
+    let enough = Lent { table: COSTS, numbers: answers::work(&case), outputs: t.max(1) };
+    let lent = if rng.once_in(2) { enough } else { memory_by_curve(rng, enough) };
+    let expected = by_curve::schedule(&case, drawn.0, &drawn.1, lent, best_list_by);
+    run.best_by_curve(&case, drawn, lent, &expected, None);
+    let (list, table) = (wild_list(rng, &case), lent_table(rng));
+    run.check_by_curve(&case, drawn, &list, table);
+}
+
+/// Runs one curve again, in memory about the length of a table.
+pub fn one_curve(run: &mut Run, drawn: DrawnCurve) {
+    for lent in [COSTS, 0, COSTS - 1, COSTS + 1, 5_000] {
+        println!("expected {}", filling(drawn.0, &drawn.1, lent).0);
+        run.fill(drawn, lent);
+    }
+}
+
+/// Runs one case by a curve again, in memory about what is asked for, and a list that is named.
+fn one_case_by_curve(run: &mut Run, case: &Case, drawn: DrawnCurve, list: Option<&[u16]>) {
+    let (table, numbers, outputs) = (COSTS, answers::work(case), case.t);
+    let enough = Lent { table, numbers, outputs };
+    for lent in [
+        enough,
+        Lent { table: table - 1, ..enough },
+        Lent { numbers: numbers - 1, ..enough },
+        Lent { outputs: outputs - 1, ..enough },
+        Lent { table: table + 30, numbers: numbers + 30, outputs: outputs + 30 },
+    ] {
+        let expected = by_curve::schedule(case, drawn.0, &drawn.1, lent, best_list_by);
+        println!("expected {:?}", expected.answer);
+        run.best_by_curve(case, drawn, lent, &expected, None);
+    }
+    let list = list.map_or_else(|| vec![0; outputs], |list| list.to_vec());
+    for lent in [table, table - 1, table + 30] {
+        println!("expected {:?}", by_curve::verdict(case, drawn.0, &drawn.1, &list, lent).answer);
+        run.check_by_curve(case, drawn, &list, lent);
+    }
+}
+
+/// Runs one file again: reading, and if it is accepted, all calls, lengths and many lists, those that are named too; or
+/// the case by a curve.
+pub fn one_file(run: &mut Run, bytes: &[u8], lists: &[Named], curve: Option<DrawnCurve>) {
     run.read(bytes);
     let Ok(case) = file::read(bytes) else {
         return;
     };
+    if let Some(drawn) = curve {
+        return one_case_by_curve(run, &case, drawn, named(lists, "list"));
+    }
     if let Some(&[first, hours]) = named(lists, "day") {
         let [on, off] = ["on", "off"].map(|name| named(lists, name).unwrap_or_default());
         return one_calendar(run, &case, &Calendar { on, off, first, hours });

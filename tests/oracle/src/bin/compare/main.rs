@@ -3,6 +3,7 @@
 //! compare [--seed N] [--groups NAME,NAME.. [--index N]] [--limit SECONDS]
 //! compare --case FILE [--list OUTPUT,OUTPUT.. [--second OUTPUT,OUTPUT..]] [--limit SECONDS]
 //! compare --case FILE --day FIRST,HOURS [--on FIRST,LENGTH..] [--off FIRST,LENGTH..] [--limit SECONDS]
+//! compare [--case FILE [--list OUTPUT,OUTPUT..]] --curve KIND,A,B,C [--limit SECONDS]
 //! compare --groups
 
 mod board;
@@ -17,8 +18,9 @@ mod watch;
 mod wishes;
 
 use board::{Board, Tally};
-use groups::{one_file, GROUPS};
+use groups::{one_curve, one_file, GROUPS};
 use kinds::Family;
+use oracle::curves::Drawn;
 use report::{show, show_outside, Source};
 use run::{remark, Run, MOST_SHOWN};
 use std::ops::Range;
@@ -114,15 +116,29 @@ impl Series<'_> {
 
 /// Runs one file again.
 fn run_case(wishes: &Wishes, path: &std::path::Path, bytes: &[u8]) -> (u64, u64) {
-    let source = |_| Source::of_file(path, bytes, &wishes.lists);
+    let source = |_| Source::of_file(path, bytes, &wishes.lists, wishes.curve);
     Series {
         name: "case",
         seed: wishes.seed,
         indices: 0..1,
         limit: wishes.limit,
         every_kind: None,
-        compare: &|run, _| one_file(run, bytes, &wishes.lists),
+        compare: &|run, _| one_file(run, bytes, &wishes.lists, wishes.curve),
         source: &source,
+    }
+    .run_and_sum_up()
+}
+
+/// Runs one curve again.
+fn run_curve(wishes: &Wishes, drawn: Drawn) -> (u64, u64) {
+    Series {
+        name: "curve",
+        seed: wishes.seed,
+        indices: 0..1,
+        limit: wishes.limit,
+        every_kind: None,
+        compare: &|run, _| one_curve(run, drawn),
+        source: &|_| Source::of_curve(drawn),
     }
     .run_and_sum_up()
 }
@@ -165,9 +181,10 @@ fn main() -> ExitCode {
         GROUPS.iter().for_each(|group| println!("{}", listed(group)));
         return ExitCode::SUCCESS;
     }
-    let (passed, failed) = match &wishes.case {
-        Some((path, bytes)) => run_case(&wishes, path, bytes),
-        None => run_groups(&wishes),
+    let (passed, failed) = match (&wishes.case, wishes.curve) {
+        (Some((path, bytes)), _) => run_case(&wishes, path, bytes),
+        (None, Some(drawn)) => run_curve(&wishes, drawn),
+        (None, None) => run_groups(&wishes),
     };
     println!("{passed} passed, {failed} failed");
     ExitCode::from(u8::from(failed > 0 || passed == 0))

@@ -3,6 +3,7 @@
 
 use crate::calls::{Call, Input, Name, Windows};
 use oracle::case::Case;
+use oracle::curves::Drawn;
 use oracle::file;
 use std::path::{Path, PathBuf};
 
@@ -31,10 +32,16 @@ impl Source {
         Source { again, name: format!("{group}-{index}"), given: None }
     }
 
-    /// A file, and the lists that it is tried with.
-    pub fn of_file(path: &Path, bytes: &[u8], lists: &[Named]) -> Source {
-        let again = format!("--case {}{}", quoted(path), options(lists));
+    /// A file, and the lists and the curve that it is tried with.
+    pub fn of_file(path: &Path, bytes: &[u8], lists: &[Named], curve: Option<Drawn>) -> Source {
+        let again = format!("--case {}{}{}", quoted(path), options(lists), curve_option(curve));
         Source { again, name: "case".to_string(), given: Some((path.to_path_buf(), bytes.to_vec())) }
+    }
+
+    /// A curve alone.
+    pub fn of_curve(drawn: Drawn) -> Source {
+        let again = curve_option(Some(drawn)).trim().to_string();
+        Source { again, name: "curve".to_string(), given: None }
     }
 }
 
@@ -49,26 +56,31 @@ pub fn show(source: &Source, call: &Call, difference: &str) {
     println!("DIFFERENCE {}: {}", source.name, call.name.word());
     println!("  call      {}", call.words());
     println!("{difference}");
-    let case = match call.input {
-        Input::File(bytes) => kept(source, call.name, bytes),
-        Input::Case(case) | Input::List(case, _) | Input::Pair(case, _) | Input::Calendar(case, _) => {
-            kept_case(source, call.name, case)
-        }
+    let case = match (call.input, call.input.case()) {
+        (Input::File(bytes), _) => kept(source, call.name, bytes),
+        (_, case) => case.and_then(|case| kept_case(source, call.name, case)),
     };
-    let lists = lists(&call.input);
+    let (lists, curve) = (lists(&call.input), call.input.curve());
     lists.iter().for_each(|(name, list)| println!("  {name:<10}{}", printed(list)));
+    if let Some((kind, curve)) = curve {
+        println!("  curve     kind {kind}, a {:?}, b {:?}, c {:?}", curve.a, curve.b, curve.c);
+    }
     println!("  again     {} {}", program(), source.again);
     let few = lists.iter().all(|(_, list)| list.len() <= MOST_LISTED);
     if let (Some(path), None, true) = (case, &source.given, few) {
-        println!("  alone     {} --case {}{}", program(), quoted(&path), options(&lists));
+        let options = options(&lists) + &curve_option(curve);
+        println!("  alone     {} --case {}{options}", program(), quoted(&path));
+    }
+    if let Input::Curve(_) = call.input {
+        println!("  alone     {}{}", program(), curve_option(curve));
     }
 }
 
 /// The lists of a call: outputs, or windows and the day that they fill.
 fn lists(input: &Input) -> Vec<Named> {
     match *input {
-        Input::File(_) | Input::Case(_) => Vec::new(),
-        Input::List(_, list) => vec![("list", list.to_vec())],
+        Input::File(_) | Input::Case(_) | Input::Curve(_) | Input::ByCurve(_, _) => Vec::new(),
+        Input::List(_, list) | Input::ListByCurve(_, _, list) => vec![("list", list.to_vec())],
         Input::Pair(_, pair) => vec![("list", pair.first.to_vec()), ("second", pair.second.to_vec())],
         Input::Calendar(_, Windows { lists, first, hours }) => {
             vec![("on", lists.first.to_vec()), ("off", lists.second.to_vec()), ("day", vec![first, hours])]
@@ -119,6 +131,15 @@ fn saved(name: &str, bytes: &[u8]) -> Option<PathBuf> {
 /// Lists as words of the command line.
 fn options(lists: &[Named]) -> String {
     lists.iter().map(|(name, list)| format!(" --{name} {}", numbers(list))).collect()
+}
+
+/// A curve as words of the command line: its kind, and the bits of each coefficient; nothing where there is none.
+fn curve_option(curve: Option<Drawn>) -> String {
+    let bits = |(kind, curve): Drawn| {
+        let [a, b, c] = curve.coefficients().map(f64::to_bits);
+        format!(" --curve {kind},{a:#x},{b:#x},{c:#x}")
+    };
+    curve.map_or(String::new(), bits)
 }
 
 /// A list for a line, in part if it is long.

@@ -4,12 +4,15 @@ use crate::board::{Board, Tally};
 use crate::calls::{Call, Difference, Input, Memory, Name, Pair, Windows};
 use crate::kinds::records::Asked;
 use crate::kinds::{
-    calendars, days, files, lent, lists, locked_lists, locks, pairs, records, stages, Family, FAMILIES,
+    calendars, curve_days, curves, days, files, lent, lists, locked_lists, locks, pairs, records, stages,
+    Family, FAMILIES,
 };
 use crate::report::{show, Source};
 use oracle::answers::{self, Schedule, Verdict};
 use oracle::best::Plan;
+use oracle::by_curve::{Filled, Lent};
 use oracle::case::Case;
+use oracle::curves::Drawn;
 use oracle::file;
 use oracle::lists::{any_list, disturb, walk};
 use oracle::random::Rng;
@@ -70,9 +73,7 @@ impl Run {
     fn tell(&mut self, difference: &Difference) {
         let case = match difference.call.input {
             Input::File(bytes) => format!("{bytes:?}"),
-            Input::Case(case) | Input::List(case, _) | Input::Pair(case, _) | Input::Calendar(case, _) => {
-                format!("{case:?}")
-            }
+            input => format!("{:?} {:?}", input.case(), input.curve()),
         };
         let about = (difference.call.name, case);
         if self.tally.shown < MOST_SHOWN && !self.told.contains(&about) {
@@ -180,6 +181,44 @@ impl Run {
         }
     }
 
+    /// Compares filling a table in so many lent numbers, and counts the kinds of the curve.
+    pub fn fill(&mut self, drawn: Drawn, lent: usize) {
+        let result = self.memory.fill(drawn, lent);
+        if let Ok(number) = result {
+            self.tally.refusals[number as usize] += 1;
+            self.tally.kinds.curve(&curves::Met::new(drawn, lent, number));
+        }
+        self.note(result.map(|_| ()));
+    }
+
+    /// Compares the check of a list by a curve, and counts the verdict and the kinds of what was checked.
+    pub fn check_by_curve(&mut self, case: &Case, drawn: Drawn, list: &[u16], lent: usize) {
+        let result = self.memory.check_by_curve(case, drawn, list, lent);
+        if let Ok(verdict) = &result {
+            self.count(verdict);
+            self.tally.kinds.curve_day(&curve_days::Met::of_check(case, drawn, list, lent, verdict));
+        }
+        self.note(result.map(|_| ()));
+    }
+
+    /// Compares the search by a curve in this memory, and counts the kinds of the day. `plain` is what F and A give,
+    /// where it is known.
+    pub fn best_by_curve(
+        &mut self,
+        case: &Case,
+        drawn: Drawn,
+        lent: Lent,
+        expected: &Filled<Schedule>,
+        plain: Option<&Schedule>,
+    ) {
+        let result = self.memory.best_by_curve(case, drawn, lent, expected);
+        if result.is_ok() {
+            self.tally.refusals[expected.answer.number as usize] += 1;
+            self.tally.kinds.curve_day(&curve_days::Met::of_best(case, drawn, lent, expected, plain));
+        }
+        self.note(result);
+    }
+
     /// Compares reading a file, and counts its kinds.
     pub fn read(&mut self, bytes: &[u8]) {
         let result = self.memory.read(bytes);
@@ -238,7 +277,7 @@ fn has_long_time(case: &Case) -> bool {
 pub fn remark(tally: &Tally, wanted: Option<Family>) -> String {
     let mut text = String::new();
     if tally.refusals.iter().any(|&count| count > 0) {
-        text += &format!("\n  refusals 0 to 15: {:?}", tally.refusals);
+        text += &format!("\n  refusals 0 to 16: {:?}", tally.refusals);
     }
     if tally.breaches.iter().any(|&count| count > 0) {
         let by_rule = RULES.iter().map(|&rule| tally.breaches[rule as usize]).collect::<Vec<_>>();

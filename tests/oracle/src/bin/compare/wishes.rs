@@ -2,6 +2,8 @@
 
 use crate::groups::{Group, GROUPS};
 use crate::report::Named;
+use oracle::curve::Curve;
+use oracle::curves::Drawn;
 use std::path::PathBuf;
 use std::time::Duration;
 
@@ -10,11 +12,12 @@ pub const USAGE: &str = "\
 usage: compare [--seed N] [--groups NAME,NAME.. [--index N]] [--limit SECONDS]
        compare --case FILE [--list OUTPUT,OUTPUT.. [--second OUTPUT,OUTPUT..]] [--limit SECONDS]
        compare --case FILE --day FIRST,HOURS [--on FIRST,LENGTH..] [--off FIRST,LENGTH..] [--limit SECONDS]
+       compare [--case FILE [--list OUTPUT,OUTPUT..]] --curve KIND,A,B,C [--limit SECONDS]
        compare --groups
 The second runs one case, with a list to check if one is named, and a second one to compare it with; the third one
-case by a calendar; the last lists the groups. A call that takes longer than the limit, 10 s if none is named, is a
-difference. Status 1: something differs, or a kind of pairs, files, records, days, calendars, lists or lengths has not
-come up.";
+case by a calendar; the fourth a cost curve, and one case by it, each coefficient a number or its bits after 0x; the
+last lists the groups. A call that takes longer than the limit, 10 s if none is named, is a difference. Status 1:
+something differs, or a kind of pairs, files, records, days, calendars, lists, lengths or curves has not come up.";
 
 /// Lists that may be named on the command line.
 const LISTS: [&str; 5] = ["list", "second", "on", "off", "day"];
@@ -37,6 +40,8 @@ pub struct Wishes {
     pub case: Option<(PathBuf, Vec<u8>)>,
     /// Lists that were named, in any order.
     pub lists: Vec<Named>,
+    /// A cost curve.
+    pub curve: Option<Drawn>,
 }
 
 /// The list of this name, if there is one.
@@ -54,6 +59,7 @@ pub fn wishes(words: impl Iterator<Item = String>) -> Result<Wishes, String> {
         limit: Duration::from_secs(LIMIT),
         case: None,
         lists: Vec::new(),
+        curve: None,
     };
     let mut words = words.peekable();
     while let Some(word) = words.next() {
@@ -65,6 +71,7 @@ pub fn wishes(words: impl Iterator<Item = String>) -> Result<Wishes, String> {
             "--index" => wishes.index = Some(number(&word, &value)?),
             "--limit" => wishes.limit = Duration::from_secs(number(&word, &value)?.max(1)),
             "--case" => wishes.case = Some(contents(&value)?),
+            "--curve" => wishes.curve = Some(curve(&value)?),
             _ => wishes.lists.push((list_name(&word)?, numbers(&word, &value)?)),
         }
     }
@@ -97,6 +104,20 @@ fn number(option: &str, text: &str) -> Result<u64, String> {
 fn contents(name: &str) -> Result<(PathBuf, Vec<u8>), String> {
     let read = |path: PathBuf| std::fs::read(&path).map(|bytes| (path, bytes));
     std::fs::canonicalize(name).and_then(read).map_err(|error| format!("--case: '{name}': {error}"))
+}
+
+/// A kind and three coefficients with commas between.
+fn curve(text: &str) -> Result<Drawn, String> {
+    let fault = || format!("--curve: '{text}' is not a kind and three coefficients");
+    let words: Vec<&str> = text.split(',').collect();
+    let &[kind, a, b, c] = &words[..] else {
+        return Err(fault());
+    };
+    let number = |word: &str| match word.strip_prefix("0x") {
+        Some(digits) => u64::from_str_radix(digits, 16).map(f64::from_bits).map_err(|_| fault()),
+        None => word.parse().map_err(|_| fault()),
+    };
+    Ok((kind.parse().map_err(|_| fault())?, Curve { a: number(a)?, b: number(b)?, c: number(c)? }))
 }
 
 /// The list that an option names.

@@ -1,6 +1,7 @@
 //! Holds the independent scheduler against the papers and against itself. Needs no library.
 
 mod calendars;
+mod curves;
 mod files;
 mod pairs;
 mod searches;
@@ -252,6 +253,11 @@ fn main() -> ExitCode {
     group("dp's lists on weeks", &mut total, weeks::full);
     group("drawn lists of weeks against dp", &mut total, weeks::drawn);
     group("the best list of a week, cut in two", &mut total, plain(weeks::cut_in_two));
+    group("known curves", &mut total, plain(curves::known));
+    group("tables of random curves", &mut total, curves::tables);
+    group("curves with faults", &mut total, curves::refused);
+    group("searches by a curve", &mut total, curves::searches);
+    group("the curve of F and A", &mut total, plain(curves::plain));
     println!("{} passed, {} failed", total.passed, total.failed);
     ExitCode::from(u8::from(total.failed > 0))
 }

@@ -1,8 +1,10 @@
 //! The kinds of what a comparison meets, each with its test, to be counted: pairs of lists, files, records,
 //! days, calendars, days inside a sequence and lists of such days, weeks, days of long minimum times and
-//! lists of such days, and lent memory.
+//! lists of such days, lent memory, cost curves, and days and lists by a curve.
 
 pub mod calendars;
+pub mod curve_days;
+pub mod curves;
 pub mod days;
 pub mod files;
 pub mod lent;
@@ -39,10 +41,12 @@ pub enum Family {
     Lock,
     LockedList,
     Lent,
+    Curve,
+    CurveDay,
 }
 
 /// All of them, in the order in which they are printed.
-pub const FAMILIES: [Family; 11] = [
+pub const FAMILIES: [Family; 13] = [
     Family::Pair,
     Family::File,
     Family::Record,
@@ -54,6 +58,8 @@ pub const FAMILIES: [Family; 11] = [
     Family::Lock,
     Family::LockedList,
     Family::Lent,
+    Family::Curve,
+    Family::CurveDay,
 ];
 
 impl Family {
@@ -71,6 +77,8 @@ impl Family {
             Family::Lock => "locked day",
             Family::LockedList => "locked list",
             Family::Lent => "length",
+            Family::Curve => "curve",
+            Family::CurveDay => "curve day",
         }
     }
 }
@@ -89,6 +97,8 @@ pub struct Counts {
     locks: [u64; locks::KINDS.len()],
     locked_lists: [u64; locked_lists::KINDS.len()],
     lent: [u64; lent::KINDS.len()],
+    curves: [u64; curves::KINDS.len()],
+    curve_days: [u64; curve_days::KINDS.len()],
 }
 
 impl Default for Counts {
@@ -105,6 +115,8 @@ impl Default for Counts {
             locks: [0; locks::KINDS.len()],
             locked_lists: [0; locked_lists::KINDS.len()],
             lent: [0; lent::KINDS.len()],
+            curves: [0; curves::KINDS.len()],
+            curve_days: [0; curve_days::KINDS.len()],
         }
     }
 }
@@ -161,6 +173,16 @@ impl Counts {
         add(&lent::KINDS, met, &mut self.lent);
     }
 
+    /// Counts a curve.
+    pub fn curve(&mut self, met: &curves::Met) {
+        add(&curves::KINDS, met, &mut self.curves);
+    }
+
+    /// Counts a search or a check by a curve.
+    pub fn curve_day(&mut self, met: &curve_days::Met) {
+        add(&curve_days::KINDS, met, &mut self.curve_days);
+    }
+
     /// Each kind in words, with how often it came up.
     fn of(&self, family: Family) -> Vec<(&'static str, u64)> {
         match family {
@@ -175,6 +197,8 @@ impl Counts {
             Family::Lock => beside(&locks::KINDS, &self.locks),
             Family::LockedList => beside(&locked_lists::KINDS, &self.locked_lists),
             Family::Lent => beside(&lent::KINDS, &self.lent),
+            Family::Curve => beside(&curves::KINDS, &self.curves),
+            Family::CurveDay => beside(&curve_days::KINDS, &self.curve_days),
         }
     }
 
