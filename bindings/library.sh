@@ -39,7 +39,7 @@ fi
 [ -f "$GIQAPSUN_LIB_DIR/libgiqapsun.a" ] ||
     broken "no libgiqapsun.a in $GIQAPSUN_LIB_DIR, the folder that GIQAPSUN_LIB_DIR names"
 symbols=$(nm "$GIQAPSUN_LIB_DIR/libgiqapsun.a" 2>&1 || true)
-for call in read write check best better best_by_calendar work; do
+for call in read write check best better best_by_calendar work table check_by_curve best_by_curve; do
     grep -q " T giqapsun_${call}_$layout$" <<<"$symbols" ||
         broken "$GIQAPSUN_LIB_DIR/libgiqapsun.a has no function giqapsun_${call}_$layout"
 done

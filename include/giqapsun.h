@@ -1,11 +1,12 @@
 /*
  * Giqapsun: the day of one thermal power unit.
  *
- * Seven calls: read a case file, write a case file, check a list of hourly outputs, find the list that
+ * Ten calls: read a case file, write a case file, check a list of hourly outputs, find the list that
  * earns most, by the case's own hour orders or by those of a calendar, tell the better of two lists, tell how
- * many numbers a search is lent to work in. A day here is the hours of one case, up to a week. Structs go by
- * value; a slice is a pointer and then its length in elements, not bytes. The calls allocate nothing, keep
- * nothing from one call to the next, and have no instruction that divides.
+ * many numbers a search is lent to work in; fill the table of a boiler maker's cost curve, check a list and
+ * find the list that earns most by that table in place of F and A. A day here is the hours of one case, up to
+ * a week. Structs go by value; a slice is a pointer and then its length in elements, not bytes. The calls
+ * allocate nothing, keep nothing from one call to the next, and have no instruction that divides.
  *
  * Units
  *
@@ -13,6 +14,9 @@
  *   hour      1 to T, T at most 168; hour 0 is the one before the day, hours above T come after it
  *   price     mills (thousandths of a dollar) per MWh, from GIQAPSUN_PRICE_LEAST to GIQAPSUN_PRICE_MOST
  *   cost      F mills per MWh, A mills per on-line hour, B per start, C per stop; none is below 0
+ *   energy    half-megawatt-hours: that of hour k is n = p(k) + p(k-1), 0 to 800
+ *   curve     a half-mills, b half-mills per half-megawatt-hour, c half-mills per half-megawatt-hour squared:
+ *             64-bit floats from 0 to GIQAPSUN_COEFFICIENT_MOST; an entry of the table is whole half-mills
  *   profit    half-mills: 2,000 to the dollar, exact, may be negative
  *
  * Case files: giqapsun_read takes three forms. giqapsun_write writes form 3. So a file of form 3 that is read
@@ -30,14 +34,32 @@
  * Then there is a stop after the day, at hour T + DD + 1 - i, and the rules at hours 0 to T see it. C belongs
  * to the day that holds the stop, and B to the day that holds the start.
  *
+ * Cost curve: the maker gives 64-bit floats of one of three kinds. An hour of n half-megawatt-hours costs
+ *
+ *   flat      GIQAPSUN_FLAT      a
+ *   straight  GIQAPSUN_STRAIGHT  b * n + a
+ *   curved    GIQAPSUN_CURVED    (c * n + b) * n + a
+ *
+ * half-mills, done in that order, each operation rounded once to the nearest float, a tie to the even one, and
+ * the last taken to the nearest whole number, a tie to the even one. No product and sum are fused. The table
+ * T(0) to T(800) never falls, each entry is within a half of the float that it is taken from, and with whole
+ * coefficients it is the formula in whole numbers. By a curve T(n) takes the place of 2 A v(k) + F n in the
+ * profit of hour k, and T(n) - T(0) in an off-line hour, that of a stop included. So F and A are tested and
+ * otherwise disregarded; the straight curve of a = 2 A and b = F gives what F and A give. Coefficients that the
+ * kind does not use are 0. Minus zero counts as zero. The calls by a curve run in the floating-point environment
+ * that C starts a program with: to nearest, the least floats not flushed to 0.
+ *
  * Refusals: the `number` of an answer. 0 is no refusal. The conditions are tested in the order of this
  * list, and the first that applies is given. giqapsun_read tests 1 to 8, 12 and 13; giqapsun_write 2 to 8,
  * 13 and 10; giqapsun_check and giqapsun_better 2 to 8, 13 and 9; giqapsun_best 2 to 8, 13, 10 and 11;
- * giqapsun_best_by_calendar 14, 15, 2 to 8, 13, 10 and 11; giqapsun_work none.
+ * giqapsun_best_by_calendar 14, 15, 2 to 8, 13, 10 and 11; giqapsun_work none; giqapsun_table 16 and 10;
+ * giqapsun_check_by_curve 16, 2 to 8, 13, 9 and 10; giqapsun_best_by_curve 16, 2 to 8, 13, 10 and 11.
  *
  *   14  a list of windows not of whole pairs; a window empty, unsorted or overlapping its neighbour; a day
  *       not of 23 to 25 hours; or first hour plus length of a window or of the day above 8,784
  *   15  an hour of the day in both lists of windows
+ *   16  a coefficient of the curve that is not a number, negative or above 1,000,000, or an unused one that is
+ *       not 0; or a kind that is none of the three
  *   1   file under 16 bytes, or pairs not as laid down
  *   2   a section length, or a count in a record, not as laid down; by calendar, T not the day's number of
  *       hours
@@ -55,7 +77,7 @@
  *   13  a price outside -10,000,000 to 10,000,000
  *   9   checked list not of T outputs
  *   10  lent memory short: 8,192 signed 64-bit numbers to work in, 32,768 where a minimum time is above 8,
- *       T outputs, or the written file's bytes
+ *       801 for the table of a curve, T outputs, or the written file's bytes
  *   11  best list asked for, and no list keeps every rule
  *
  * Rules that a list may break: the `rule` of a verdict.
@@ -134,7 +156,7 @@ extern "C" {
 #endif
 
 /* Version of the product. */
-#define GIQAPSUN_VERSION "4.0.0"
+#define GIQAPSUN_VERSION "4.1.0"
 
 /*
  * Number of the layout: it changes with every change of a struct below, and each function of the library
@@ -153,15 +175,18 @@ extern "C" {
 #define giqapsun_better GIQAPSUN_NAMED(giqapsun_better, GIQAPSUN_LAYOUT)
 #define giqapsun_best_by_calendar GIQAPSUN_NAMED(giqapsun_best_by_calendar, GIQAPSUN_LAYOUT)
 #define giqapsun_work GIQAPSUN_NAMED(giqapsun_work, GIQAPSUN_LAYOUT)
+#define giqapsun_table GIQAPSUN_NAMED(giqapsun_table, GIQAPSUN_LAYOUT)
+#define giqapsun_check_by_curve GIQAPSUN_NAMED(giqapsun_check_by_curve, GIQAPSUN_LAYOUT)
+#define giqapsun_best_by_curve GIQAPSUN_NAMED(giqapsun_best_by_curve, GIQAPSUN_LAYOUT)
 
 /* Entries that a record has room for: outputs of a trajectory, hours of a day. */
 #define GIQAPSUN_STAGES 8
 #define GIQAPSUN_HOURS 168
 
 /*
- * Signed 64-bit numbers that giqapsun_best and giqapsun_best_by_calendar are lent to work in: GIQAPSUN_WORK where
- * both minimum times are at most GIQAPSUN_SHORT_TIME hours, GIQAPSUN_WORK_MOST otherwise, which are enough for
- * every case. giqapsun_work tells which of the two.
+ * Signed 64-bit numbers that giqapsun_best, giqapsun_best_by_calendar and giqapsun_best_by_curve are lent to work
+ * in: GIQAPSUN_WORK where both minimum times are at most GIQAPSUN_SHORT_TIME hours, GIQAPSUN_WORK_MOST otherwise,
+ * which are enough for every case. giqapsun_work tells which of the two.
  */
 #define GIQAPSUN_SHORT_TIME 8
 #define GIQAPSUN_WORK 8192
@@ -175,6 +200,9 @@ extern "C" {
 #define GIQAPSUN_STACK_BETTER 8192
 #define GIQAPSUN_STACK_CALENDAR 65536
 #define GIQAPSUN_STACK_WORK 2048
+#define GIQAPSUN_STACK_TABLE 2048
+#define GIQAPSUN_STACK_CHECK_BY_CURVE 12288
+#define GIQAPSUN_STACK_BEST_BY_CURVE 65536
 
 /* Bytes of the longest file: pairs, unit, two trajectories, hours, form number. */
 #define GIQAPSUN_FILE_MOST (20 + 34 + 2 * GIQAPSUN_STAGES * 2 + 5 * GIQAPSUN_HOURS + 2)
@@ -187,6 +215,17 @@ extern "C" {
 #define GIQAPSUN_YEAR_HOURS 8784
 #define GIQAPSUN_DAY_LEAST 23
 #define GIQAPSUN_DAY_MOST 25
+
+/* Signed 64-bit numbers of the table of a curve: costs for 0 to 800 half-megawatt-hours. */
+#define GIQAPSUN_COSTS 801
+
+/* Kinds of a curve, by the coefficients that they use: a; a and b; a, b and c. */
+#define GIQAPSUN_FLAT 0
+#define GIQAPSUN_STRAIGHT 1
+#define GIQAPSUN_CURVED 2
+
+/* The largest coefficient of a curve. */
+#define GIQAPSUN_COEFFICIENT_MOST 1000000
 
 /* Orders of an hour. */
 #define GIQAPSUN_FREE 0
@@ -216,6 +255,13 @@ struct giqapsun_case {
     size_t rises; /* UD: entries of rise, 1 to 8 */
     size_t falls; /* DD: entries of fall, 1 to 8 */
     size_t hours; /* T: entries of prices and of orders, 1 to 168 */
+};
+
+/* The coefficients of a cost curve; those that its kind does not use are 0. */
+struct giqapsun_curve {
+    double a; /* half-mills */
+    double b; /* half-mills per half-megawatt-hour */
+    double c; /* half-mills per half-megawatt-hour squared */
 };
 
 /* Number 0 and the case; or a refusal and a record of zeros. */
@@ -317,6 +363,32 @@ struct giqapsun_plan giqapsun_best_by_calendar(struct giqapsun_case c, const uin
  * every other call refuses has an answer too. Changes no memory.
  */
 size_t giqapsun_work(struct giqapsun_case c);
+
+/*
+ * Fills the table of a curve of this kind: table[n] is what an hour of n half-megawatt-hours costs, in half-mills,
+ * for n from 0 to GIQAPSUN_COSTS - 1. Gives 0, or the number of a refusal, 16 or 10, and then changes nothing. t is
+ * at least GIQAPSUN_COSTS; entries past them are not changed.
+ */
+uint32_t giqapsun_table(uint16_t kind, struct giqapsun_curve curve, int64_t *table, size_t t);
+
+/*
+ * Checks a list of n outputs by a curve of this kind: the verdict of giqapsun_check, with the profit by the table.
+ * On number 0, where the list breaks a rule too, the table is filled as by giqapsun_table; on a refusal nothing is
+ * changed. A list with more than 800 half-megawatt-hours in an hour breaks a rule.
+ */
+struct giqapsun_verdict giqapsun_check_by_curve(struct giqapsun_case c, uint16_t kind,
+                                                struct giqapsun_curve curve, const uint16_t *list, size_t n,
+                                                int64_t *table, size_t t);
+
+/*
+ * Finds the list that keeps every rule and earns most by a curve of this kind; among equal earners the one that is
+ * lower at the first hour where two differ. t is at least GIQAPSUN_COSTS; n, m and what is changed of work and
+ * outputs are as for giqapsun_best. On numbers 0 and 11 the table is filled as by giqapsun_table; on any other
+ * number nothing is changed.
+ */
+struct giqapsun_plan giqapsun_best_by_curve(struct giqapsun_case c, uint16_t kind, struct giqapsun_curve curve,
+                                            int64_t *table, size_t t, int64_t *work, size_t n,
+                                            uint16_t *outputs, size_t m);
 
 #ifdef __cplusplus
 }

@@ -1,11 +1,13 @@
 """The Python module: known days, the source's day, every form of a file, prices below 0, days that open and close
-inside a sequence, weeks and long minimum times, the better of two lists, days by calendar, refusals, numbers that fit
-no record, the library that it loads, and the module as it is installed."""
+inside a sequence, weeks and long minimum times, the better of two lists, days by calendar and by a cost curve,
+refusals, numbers that fit no record, the library that it loads, and the module as it is installed."""
 
 import ctypes
 import doctest
+import math
 import os
 import pickle
+import random
 import re
 import subprocess
 import sys
@@ -15,12 +17,16 @@ import unittest
 from array import array
 from contextlib import chdir
 from dataclasses import asdict, fields, replace
+from fractions import Fraction
 from itertools import product
 from pathlib import Path
 
 import giqapsun
-from giqapsun import Breaks, Case, First, Neither, Opening, Passes, Plan, Refusal, Second
-from giqapsun import best, best_by_calendar, better, check, compare, opening_after, read, working_numbers, write
+from giqapsun import (
+    Breaks, Case, Curved, First, Flat, Neither, Opening, Passes, Plan, Refusal, Second, Straight, best,
+    best_by_calendar, best_by_curve, better, check, check_by_curve, compare, opening_after, read, table,
+    working_numbers, write,
+)
 from giqapsun import _boundary as boundary
 
 ROOT = Path(__file__).resolve().parents[2]
@@ -502,6 +508,101 @@ class Weeks(Refusing):
             self.refused(11, best_by_calendar, case, [], [2400, 1], 2400, 24)
 
 
+class Curves(Refusing):
+    """Cost curves: tables, and the check and the search by them."""
+
+    PLAIN = Straight(2, 10)
+
+    @staticmethod
+    def unit(initial, prices, **changes):
+        """Case 7's unit from an output, with these prices."""
+        return replace(read(CASE_7), initial=initial, prices=prices, orders=[giqapsun.FREE] * len(prices), **changes)
+
+    def test_whole_coefficients(self):
+        """The formula in whole numbers."""
+        for a, b, c in ((0, 0, 0), (3, 2, 1), (10**6, 10**6, 10**6), (999_999, 1, 31)):
+            self.assertEqual(table(Flat(a)), [a] * 801)
+            self.assertEqual(table(Straight(a, float(b))), [b * n + a for n in range(801)])
+            self.assertEqual(table(Curved(float(a), b, c)), [(c * n + b) * n + a for n in range(801)])
+
+    def test_rounded_once(self):
+        """Python's floats round each operation once too, and a tie to the even number."""
+        chance = random.Random(7)
+        for _ in range(200):
+            a, b, c = (chance.choice((chance.random() * 10 ** chance.randint(-9, 6), chance.randint(0, 2000) / 2))
+                       for _ in range(3))
+            self.assertEqual(table(Flat(a)), [round(a)] * 801)
+            self.assertEqual(table(Straight(a, b)), [round(b * n + a) for n in range(801)])
+            self.assertEqual(table(Curved(a, b, c)), [round((c * n + b) * n + a) for n in range(801)])
+
+    def test_ties(self):
+        for a, cost in ((0.5, 0), (1.5, 2), (2.5, 2), (0.49999999999999994, 0), (0.5000000000000001, 1), (-0.0, 0)):
+            self.assertEqual(table(Flat(a)), [cost] * 801)
+        self.assertEqual(table(Straight(2.0**-54, 0.1))[5], 0)
+
+    def test_refused_coefficients(self):
+        case = read(CASE_7)
+        for number in (math.nan, -math.nan, math.inf, -math.inf, -1, -5e-324, math.nextafter(1e6, math.inf), 1e300):
+            for curve in (
+                Flat(number), Straight(number, 1), Straight(1, number), Curved(number, 1, 1), Curved(1, number, 1),
+                Curved(1, 1, number),
+            ):
+                with self.subTest(curve=curve):
+                    self.refused(16, table, curve)
+                    self.refused(16, best_by_curve, case, curve)
+                    self.refused(16, check_by_curve, case, curve, [2, 1, 0])
+                    # before the case and the list
+                    self.refused(16, best_by_curve, Case(), curve)
+                    self.refused(16, check_by_curve, Case(), curve, [])
+        for number in (0, -0.0, 5e-324, 10**6):
+            self.assertEqual(len(table(Curved(number, number, number))), giqapsun.COSTS)
+
+    def test_curve_of_f_and_a(self):
+        source = read(SOURCE)
+        self.assertEqual(best_by_curve(source, Straight(200_000, 38_000)), best(source))
+        for initial, prices in ((3, [5, 5, 5]), (0, [18]), (0, [19]), (2, [5, 5])):
+            case = self.unit(initial, prices)
+            plan = best(case)
+            self.assertEqual(best_by_curve(case, self.PLAIN), plan)
+            self.assertEqual(best_by_curve(replace(case, variable=10**6, fixed=10**8), self.PLAIN), plan)
+            self.assertEqual(check_by_curve(case, self.PLAIN, plan.outputs), check(case, plan.outputs))
+        self.refused(5, best_by_curve, replace(source, variable=1_000_001), self.PLAIN)
+        self.refused(9, check_by_curve, source, self.PLAIN, [])
+        none = replace(self.unit(0, [10], elapsed=1, mindown=2), orders=[giqapsun.ON])
+        self.refused(11, best_by_curve, none, self.PLAIN)
+
+    def test_off_line_hours(self):
+        """At rest an hour costs nothing; that of a stop has the entry for 0 taken off."""
+        self.assertEqual(best_by_curve(self.unit(0, [0]), Flat(7)), Plan([0], 0))
+        stops = self.unit(2, [0, 0])
+        self.assertEqual(best_by_curve(stops, Flat(7)), Plan([1, 0], -11))
+        for curve, profit in ((Flat(7), -11), (Straight(7, 3), -23), (Curved(7, 3, 2), -43)):
+            self.assertEqual(check_by_curve(stops, curve, [1, 0]), Passes(profit))
+
+    def test_makers_day(self):
+        source, maker = read(SOURCE), Curved(412_500.5, 29_250.75, 14.3)
+        plan = best_by_curve(source, maker)
+        self.assertEqual(plan.profit, 44_732_821)
+        self.assertEqual(check_by_curve(source, maker, plan.outputs), Passes(plan.profit))
+        self.assertEqual(check_by_curve(source, maker, SOURCE_LIST), Passes(43_810_331))
+        boiler = read(BOILER)
+        week = best_by_curve(boiler, maker)
+        self.assertEqual(check_by_curve(boiler, maker, week.outputs), Passes(week.profit))
+
+    def test_lists_past_the_table(self):
+        for output in (5, 798, 65_535):
+            self.assertEqual(check_by_curve(self.unit(3, [20]), self.PLAIN, [output]), Breaks(1, 3))
+
+    def test_curves_that_are_none(self):
+        case = read(CASE_7)
+        for curve in (None, 7, 7.0, (1, 2), Flat(None), Flat("1"), Flat(True), Flat(1j), Flat([1]), Straight(1, b"1"),
+                      Flat(2**53 + 1), Flat(10**400)):
+            for call in (lambda: table(curve), lambda: best_by_curve(case, curve)):
+                with self.assertRaises(ValueError):
+                    call()
+        self.assertEqual(table(Flat(Fraction(5, 2))), [2] * 801)
+
+
 class Calendar(Refusing):
     """Days by the windows of the year."""
 
@@ -743,7 +844,7 @@ class Refusals(Refusing):
         self.assertEqual(str(Refusal(8)), "refused 8: an order byte above 2")
         self.assertEqual(str(Refusal(12)), "refused 12: form number neither 2 nor 3")
         self.assertEqual(str(Refusal(15)), "refused 15: an hour of the day in both lists of windows")
-        self.assertEqual((Refusal(16).number, Refusal(16).text), (16, "a number that is not in the refusal list"))
+        self.assertEqual((Refusal(17).number, Refusal(17).text), (17, "a number that is not in the refusal list"))
         self.assertEqual(pickle.loads(pickle.dumps(Refusal(3))).number, 3)
 
     def test_texts_are_those_of_the_tables(self):
@@ -869,7 +970,8 @@ class Kinds(unittest.TestCase):
                 setattr(case, name, 1)
         with self.assertRaises(TypeError):
             Case(ramp_up=1)
-        for answer in (Passes(1), Breaks(1, 2), best(case), First(1), Second(1), Neither(), Opening(1, 2)):
+        curves = Flat(1.0), Straight(1.0, 2.0), Curved(1.0, 2.0, 3.0)
+        for answer in (Passes(1), Breaks(1, 2), best(case), First(1), Second(1), Neither(), Opening(1, 2), *curves):
             with self.assertRaises((AttributeError, TypeError)):
                 answer.other = 1
             self.assertEqual(pickle.loads(pickle.dumps(answer)), answer)
@@ -877,11 +979,12 @@ class Kinds(unittest.TestCase):
 
     def test_types(self):
         self.assertTrue((Path(giqapsun.__file__).parent / "py.typed").exists())
-        calls = (read, write, check, best, best_by_calendar, compare, better, opening_after, working_numbers)
+        calls = (read, write, check, best, best_by_calendar, compare, better, opening_after, working_numbers, table,
+                 check_by_curve, best_by_curve)
         for call in (*calls, giqapsun.library_file):
             hints = typing.get_type_hints(call)
             self.assertEqual(len(hints), call.__code__.co_argcount + 1)
-        for kind in (Case, Opening, Passes, Breaks, Plan, First, Second, Neither):
+        for kind in (Case, Opening, Passes, Breaks, Plan, First, Second, Neither, Flat, Straight, Curved):
             self.assertEqual(set(typing.get_type_hints(kind)), {field.name for field in fields(kind)})
 
     def test_names_are_those_of_the_header(self):

@@ -19,6 +19,11 @@
         printf(", %s\n", (double)ones.number < 0 ? "signed" : "unsigned"); \
     } while (0)
 
+#define NUMBER(name, field)    \
+    do {                       \
+        PLACE(name, field);    \
+        printf(", float\n");   \
+    } while (0)
 #define RECORD(name, field)  \
     do {                     \
         PLACE(name, field);  \
@@ -49,6 +54,11 @@ int main(void)
     CONSTANT(YEAR_HOURS);
     CONSTANT(DAY_LEAST);
     CONSTANT(DAY_MOST);
+    CONSTANT(COSTS);
+    CONSTANT(FLAT);
+    CONSTANT(STRAIGHT);
+    CONSTANT(CURVED);
+    CONSTANT(COEFFICIENT_MOST);
     CONSTANT(FREE);
     CONSTANT(ON);
     CONSTANT(OFF);
@@ -74,6 +84,10 @@ int main(void)
     FIELD(case, rises);
     FIELD(case, falls);
     FIELD(case, hours);
+    STRUCT(curve);
+    NUMBER(curve, a);
+    NUMBER(curve, b);
+    NUMBER(curve, c);
     STRUCT(reading);
     FIELD(reading, number);
     RECORD(reading, c);

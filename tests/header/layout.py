@@ -7,7 +7,7 @@ from giqapsun import _boundary as boundary
 
 CONSTANTS = (
     "LAYOUT", "STAGES", "HOURS", "SHORT_TIME", "WORK", "WORK_MOST", "FILE_MOST", "PRICE_LEAST", "PRICE_MOST",
-    "YEAR_HOURS", "DAY_LEAST", "DAY_MOST",
+    "YEAR_HOURS", "DAY_LEAST", "DAY_MOST", "COSTS", "FLAT", "STRAIGHT", "CURVED", "COEFFICIENT_MOST",
 )
 
 
@@ -17,6 +17,8 @@ def sign(kind):
     number = number if isinstance(number, type) else kind
     if issubclass(number, ctypes.Structure):
         return ""
+    if number is ctypes.c_double:
+        return ", float"
     return ", signed" if number(-1).value < 0 else ", unsigned"
 
 
@@ -26,7 +28,7 @@ def main():
         print(name, getattr(boundary, name))
     for name in ("FREE", "ON", "OFF"):
         print(name, getattr(giqapsun, name))
-    for name in ("case", "reading", "written", "verdict", "plan", "choice"):
+    for name in ("case", "curve", "reading", "written", "verdict", "plan", "choice"):
         kind = getattr(boundary, name.capitalize())
         print(f"{name}: size {ctypes.sizeof(kind)}")
         for field, number in kind._fields_:

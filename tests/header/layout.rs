@@ -5,7 +5,7 @@
 #[path = "../../bindings/rust/src/boundary.rs"]
 mod boundary;
 
-use boundary::{Case, Choice, Plan, Reading, Verdict, Written};
+use boundary::{Case, Choice, Curve, Plan, Reading, Verdict, Written};
 use std::mem::{offset_of, size_of, size_of_val};
 
 /// The sign of a field, as layout.c prints it.
@@ -18,7 +18,8 @@ macro_rules! signs {
 }
 
 signs! {
-    u8: ", unsigned" u16: ", unsigned" u32: ", unsigned" usize: ", unsigned" i32: ", signed" i64: ", signed" Case: ""
+    u8: ", unsigned" u16: ", unsigned" u32: ", unsigned" usize: ", unsigned" i32: ", signed" i64: ", signed"
+    f64: ", float" Case: ""
 }
 
 impl<N: Sign, const COUNT: usize> Sign for [N; COUNT] {
@@ -55,12 +56,18 @@ fn main() {
     println!("YEAR_HOURS {}", boundary::YEAR_HOURS);
     println!("DAY_LEAST {}", boundary::DAY_LEAST);
     println!("DAY_MOST {}", boundary::DAY_MOST);
+    println!("COSTS {}", boundary::COSTS);
+    println!("FLAT {}", boundary::FLAT);
+    println!("STRAIGHT {}", boundary::STRAIGHT);
+    println!("CURVED {}", boundary::CURVED);
+    println!("COEFFICIENT_MOST {}", boundary::COEFFICIENT_MOST);
     println!("FREE {}", boundary::FREE);
     println!("ON {}", boundary::ON);
     println!("OFF {}", boundary::OFF);
     let case = Case::default();
     layout!("case", Case, case, capacity minimum rampup rampdown minup mindown variable fixed startcost
         stopcost initial elapsed upstage downstage rise fall prices orders rises falls hours);
+    layout!("curve", Curve, Curve { a: 0.0, b: 0.0, c: 0.0 }, a b c);
     layout!("reading", Reading, Reading { number: 0, c: case }, number c);
     layout!("written", Written, Written { number: 0, length: 0 }, number length);
     layout!("verdict", Verdict, Verdict { number: 0, hour: 0, rule: 0, profit: 0 }, number hour rule profit);

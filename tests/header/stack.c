@@ -19,11 +19,14 @@ static unsigned char stack[STACK_BYTES] __attribute__((aligned(64)));
 /* The largest case, its first hours as a day of the calendar, and both with short minimum times. */
 static struct giqapsun_case largest, longest_day, short_times, short_times_day;
 static uint8_t file[GIQAPSUN_FILE_MOST];
-static int64_t work[GIQAPSUN_WORK_MOST];
+static int64_t work[GIQAPSUN_WORK_MOST], table[GIQAPSUN_COSTS];
 static uint16_t outputs[GIQAPSUN_HOURS];
 
 /* The year's windows; of that day, from hour 100 of the year, hours 9 and 10 are on-line, hour 25 off-line. */
 static const uint16_t on[] = {90, 10, 108, 2}, off[] = {124, 2, 126, 1};
+
+/* A curve that bends, and one whose costs are the largest. */
+static const struct giqapsun_curve bent = {200000.5, 25000.25, 10.75}, steepest = {1e6, 1e6, 1e6};
 
 /* Numbers of the answers; all are 0. */
 static uint32_t numbers;
@@ -81,6 +84,45 @@ static void call_best_by_calendar_by_short_times(void)
     search_by_calendar(short_times_day, GIQAPSUN_WORK);
 }
 
+static void call_table(void)
+{
+    numbers |= giqapsun_table(GIQAPSUN_CURVED, bent, table, GIQAPSUN_COSTS);
+}
+
+/* By each kind of curve, the straight and the flat one without the coefficients that they do not use. */
+static void search_by_curve(struct giqapsun_case day, size_t lent)
+{
+    struct giqapsun_curve straight = {bent.a, bent.b, 0}, flat = {bent.a, 0, 0};
+    numbers |= giqapsun_best_by_curve(day, GIQAPSUN_FLAT, flat, table, GIQAPSUN_COSTS, work, lent, outputs,
+                                      GIQAPSUN_HOURS)
+                   .number;
+    numbers |= giqapsun_best_by_curve(day, GIQAPSUN_STRAIGHT, straight, table, GIQAPSUN_COSTS, work, lent, outputs,
+                                      GIQAPSUN_HOURS)
+                   .number;
+    numbers |= giqapsun_best_by_curve(day, GIQAPSUN_CURVED, steepest, table, GIQAPSUN_COSTS, work, lent, outputs,
+                                      GIQAPSUN_HOURS)
+                   .number;
+    numbers |= giqapsun_best_by_curve(day, GIQAPSUN_CURVED, bent, table, GIQAPSUN_COSTS, work, lent, outputs,
+                                      GIQAPSUN_HOURS)
+                   .number;
+}
+
+static void call_best_by_curve(void)
+{
+    search_by_curve(largest, GIQAPSUN_WORK_MOST);
+}
+
+static void call_best_by_curve_by_short_times(void)
+{
+    search_by_curve(short_times, GIQAPSUN_WORK);
+}
+
+static void call_check_by_curve(void)
+{
+    numbers |= giqapsun_check_by_curve(largest, GIQAPSUN_CURVED, bent, outputs, GIQAPSUN_HOURS, table, GIQAPSUN_COSTS)
+                   .number;
+}
+
 /* The calls in an order in which each has what it needs. */
 static struct {
     const char *name;
@@ -96,6 +138,10 @@ static struct {
     {"better", call_better, GIQAPSUN_STACK_BETTER, 0},
     {"best_by_calendar", call_best_by_calendar, GIQAPSUN_STACK_CALENDAR, 0},
     {"best_by_calendar by short times", call_best_by_calendar_by_short_times, GIQAPSUN_STACK_CALENDAR, 0},
+    {"table", call_table, GIQAPSUN_STACK_TABLE, 0},
+    {"best_by_curve by short times", call_best_by_curve_by_short_times, GIQAPSUN_STACK_BEST_BY_CURVE, 0},
+    {"best_by_curve", call_best_by_curve, GIQAPSUN_STACK_BEST_BY_CURVE, 0},
+    {"check_by_curve", call_check_by_curve, GIQAPSUN_STACK_CHECK_BY_CURVE, 0},
 };
 
 #define CALLS (sizeof calls / sizeof *calls)

@@ -1,6 +1,7 @@
 """The day of one thermal power unit: case files are read and written, a list of hourly outputs is checked
 against the rules of the day, the list that earns most is found, by the case's own hour orders or by those of the
-year's calendar, the better of two lists is told, and what a list leaves for the next day.
+year's calendar, the better of two lists is told, and what a list leaves for the next day. A list is checked and the
+best one found by a boiler maker's cost curve too.
 
 Outputs are whole megawatts, prices and costs mills (thousandths of a dollar), profits half-mills (2,000 to
 the dollar, exact). A price may be below 0: it is from PRICE_LEAST to PRICE_MOST. Hours are counted from 1;
@@ -19,6 +20,11 @@ A calendar is two lists of windows of the year, on-line and off-line, each with 
 hour, counted from 0 at the year's first hour, and its length in hours.
 
     by_calendar = giqapsun.best_by_calendar(case, on=[], off=[2406, 6], first=2400, hours=24)
+
+A cost curve is Flat(a), Straight(a, b) or Curved(a, b, c), of floats: an hour of n half-megawatt-hours costs a,
+b n + a or (c n + b) n + a half-mills, in place of what F and A give.
+
+    by_curve = giqapsun.best_by_curve(case, giqapsun.Curved(200000.0, 38000.0, 0.05))
 
 Days follow one another: the next one opens as the list leaves the unit.
 
@@ -42,19 +48,22 @@ from functools import lru_cache
 from typing import SupportsIndex, TypeVar
 
 from ._boundary import (
-    DAY_LEAST, DAY_MOST, FILE_MOST, HOURS, PRICE_LEAST, PRICE_MOST, SHORT_TIME, STAGES, WORK, WORK_MOST, YEAR_HOURS,
+    COEFFICIENT_MOST, COSTS, CURVED, DAY_LEAST, DAY_MOST, FILE_MOST, FLAT, HOURS, PRICE_LEAST, PRICE_MOST, SHORT_TIME,
+    STAGES, STRAIGHT, WORK, WORK_MOST, YEAR_HOURS,
 )
 from ._boundary import Case as _Case
+from ._boundary import Curve as _Curve
 from ._boundary import LibraryError, calls, library_file
 from ._texts import REFUSALS, RULES
 
-__version__ = "4.0.0"
+__version__ = "4.1.0"
 
 __all__ = [
     "Case", "Opening", "Passes", "Breaks", "Plan", "First", "Second", "Neither", "Refusal", "LibraryError",
-    "read", "write", "check", "best", "best_by_calendar", "compare", "better", "opening_after", "working_numbers",
-    "library_file", "FREE", "ON", "OFF", "STAGES", "HOURS", "SHORT_TIME", "WORK", "WORK_MOST", "PRICE_LEAST",
-    "PRICE_MOST", "YEAR_HOURS", "DAY_HOURS", "REFUSALS", "RULES",
+    "Flat", "Straight", "Curved", "read", "write", "check", "best", "best_by_calendar", "compare", "better", "table",
+    "check_by_curve", "best_by_curve", "opening_after", "working_numbers", "library_file", "FREE", "ON", "OFF",
+    "STAGES", "HOURS", "SHORT_TIME", "WORK", "WORK_MOST", "PRICE_LEAST", "PRICE_MOST", "YEAR_HOURS", "DAY_HOURS",
+    "COSTS", "COEFFICIENT_MOST", "REFUSALS", "RULES",
 ]
 
 # orders of an hour
@@ -101,6 +110,32 @@ class Case:
     fall: list[int] = field(default_factory=list)  # PD, MW
     prices: list[int] = field(default_factory=list)  # mills per MWh, below 0 too, that of hour k at k - 1
     orders: list[int] = field(default_factory=list)  # FREE, ON or OFF, that of hour k at k - 1
+
+
+@dataclass(frozen=True, slots=True)
+class Flat:
+    """A cost curve: an hour costs a, in half-mills."""
+
+    a: float
+
+
+@dataclass(frozen=True, slots=True)
+class Straight:
+    """A cost curve: an hour of n half-megawatt-hours costs b n + a half-mills; b is half-mills per
+    half-megawatt-hour."""
+
+    a: float
+    b: float
+
+
+@dataclass(frozen=True, slots=True)
+class Curved:
+    """A cost curve: an hour of n half-megawatt-hours costs (c n + b) n + a half-mills; c is half-mills per
+    half-megawatt-hour squared."""
+
+    a: float
+    b: float
+    c: float
 
 
 @dataclass(frozen=True, slots=True)
@@ -189,9 +224,7 @@ def write(case: Case) -> bytes:
 def check(case: Case, outputs: Iterable[SupportsIndex]) -> Passes | Breaks:
     """Passes or Breaks, for a list of outputs; refusals 2 to 8, 13 and 9."""
     listed = _listed("outputs", outputs)
-    verdict = calls().check(_record(case), *listed)
-    _test(verdict.number)
-    return Breaks(verdict.hour, verdict.rule) if verdict.rule else Passes(verdict.profit)
+    return _judged(calls().check(_record(case), *listed))
 
 
 def best(case: Case) -> Plan:
@@ -215,6 +248,39 @@ def best_by_calendar(
     windows = *_listed("on", on), *_listed("off", off)
     day = _number("first", first, ctypes.c_uint16), _number("hours", hours, ctypes.c_uint16)
     return _planned(calls().best_by_calendar, case, *windows, *day)
+
+
+def table(curve: Flat | Straight | Curved) -> list[int]:
+    """What an hour costs by a curve, in half-mills, that of n half-megawatt-hours at n, from 0 to 800; refusal 16.
+
+    Each operation is rounded once, in the order written; the last is taken to the nearest whole number, a tie to the
+    even one. Coefficients are from 0 to COEFFICIENT_MOST; one that is not a number or infinite is refused, -0.0 is 0.
+    """
+    costs = (ctypes.c_int64 * COSTS)()
+    _test(calls().table(*_coefficients(curve), costs, COSTS))
+    return costs[:]
+
+
+def check_by_curve(
+    case: Case, curve: Flat | Straight | Curved, outputs: Iterable[SupportsIndex]
+) -> Passes | Breaks:
+    """The verdict of `check`, with the profit by the table of a curve; refusals 16, 2 to 8, 13 and 9.
+
+    An hour costs the table's entry in place of what F and A give; in an off-line hour, that of a stop included, the
+    entry for 0 is taken off. F and A are still tested.
+    """
+    listed = _listed("outputs", outputs)
+    costs = (ctypes.c_int64 * COSTS)()
+    return _judged(calls().check_by_curve(_record(case), *_coefficients(curve), *listed, costs, COSTS))
+
+
+def best_by_curve(case: Case, curve: Flat | Straight | Curved) -> Plan:
+    """The list that keeps every rule and earns most by the table of a curve; refusals 16, 2 to 8, 13 and 11.
+
+    Among equal earners it is the list that is lower at the first hour where two differ.
+    """
+    costs = (ctypes.c_int64 * COSTS)()
+    return _planned(calls().best_by_curve, case, *_coefficients(curve), costs, COSTS)
 
 
 def compare(
@@ -264,7 +330,8 @@ def opening_after(case: Case, outputs: Iterable[SupportsIndex]) -> Opening:
 
 def working_numbers(case: Case) -> int:
     """How many numbers a search of a case is lent to work in: WORK where both minimum times are at most SHORT_TIME,
-    WORK_MOST otherwise, for a case that would be refused too. `best` and `best_by_calendar` lend as many."""
+    WORK_MOST otherwise, for a case that would be refused too. `best`, `best_by_calendar` and `best_by_curve` lend as
+    many."""
     return calls().work(_record(case))
 
 
@@ -339,12 +406,46 @@ def _lent(kind, entries):
     return (kind * max(1, len(entries)))(*entries)
 
 
-def _planned(call, case, *calendar):
-    """The plan that a call finds, with as many numbers to work in as the case needs and room for the outputs lent."""
+def _coefficients(curve):
+    """The number of a curve's kind, and its record."""
+    match curve:
+        case Flat():
+            kind, names = FLAT, "a"
+        case Straight():
+            kind, names = STRAIGHT, "ab"
+        case Curved():
+            kind, names = CURVED, "abc"
+        case _:
+            raise ValueError(f"curve: {curve!r} is not Flat, Straight or Curved")
+    return kind, _Curve(*(_float(name, getattr(curve, name)) for name in names))
+
+
+def _float(name, value):
+    """A float, or a whole number that is one, but no truth value and no text."""
+    try:
+        if isinstance(value, (bool, str, bytes, bytearray)):
+            raise TypeError
+        number = float(value)
+    except (TypeError, ValueError, OverflowError):
+        raise ValueError(f"{name}: {value!r} is not a number that a float holds") from None
+    if isinstance(value, int) and number != value:
+        raise ValueError(f"{name}: {value!r} is not a number that a float holds")
+    return number
+
+
+def _judged(verdict):
+    """The verdict of a check."""
+    _test(verdict.number)
+    return Breaks(verdict.hour, verdict.rule) if verdict.rule else Passes(verdict.profit)
+
+
+def _planned(call, case, *beside):
+    """The plan that a call finds, with as many numbers to work in as the case needs and room for the outputs lent;
+    what stands between the case and these is given."""
     record = _record(case)
     numbers = calls().work(record)
     work, outputs = (ctypes.c_int64 * numbers)(), (ctypes.c_uint16 * HOURS)()
-    plan = call(record, *calendar, work, numbers, outputs, HOURS)
+    plan = call(record, *beside, work, numbers, outputs, HOURS)
     _test(plan.number)
     return Plan(outputs[: len(case.prices)], plan.profit)
 

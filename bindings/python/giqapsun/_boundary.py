@@ -16,6 +16,9 @@ PRICE_MOST = 10_000_000
 YEAR_HOURS = 8784
 DAY_LEAST = 23
 DAY_MOST = 25
+COSTS = 801
+FLAT, STRAIGHT, CURVED = 0, 1, 2
+COEFFICIENT_MOST = 1_000_000
 
 # the number of the record's layout, which ends the name of each call
 LAYOUT = 4
@@ -55,6 +58,12 @@ class Case(ctypes.Structure):
     ]
 
 
+class Curve(ctypes.Structure):
+    """The coefficients of a cost curve."""
+
+    _fields_ = [("a", ctypes.c_double), ("b", ctypes.c_double), ("c", ctypes.c_double)]
+
+
 class Reading(ctypes.Structure):
     """Number 0 and the case, or a refusal."""
 
@@ -90,7 +99,7 @@ class Choice(ctypes.Structure):
     _fields_ = [("number", ctypes.c_uint32), ("which", ctypes.c_uint32), ("profit", ctypes.c_int64)]
 
 
-# lent slices, pointer and length: bytes, outputs or windows, numbers to work in
+# lent slices, pointer and length: bytes, outputs or windows, numbers of a table or to work in
 _BYTES = [ctypes.POINTER(ctypes.c_uint8), ctypes.c_size_t]
 _LIST = [ctypes.POINTER(ctypes.c_uint16), ctypes.c_size_t]
 _NUMBERS = [ctypes.POINTER(ctypes.c_int64), ctypes.c_size_t]
@@ -105,6 +114,9 @@ _CALLS = {
     "better": (Choice, [Case, *_LIST, *_LIST]),
     "best_by_calendar": (Plan, [Case, *_LIST, *_LIST, ctypes.c_uint16, ctypes.c_uint16, *_NUMBERS, *_LIST]),
     "work": (ctypes.c_size_t, [Case]),
+    "table": (ctypes.c_uint32, [ctypes.c_uint16, Curve, *_NUMBERS]),
+    "check_by_curve": (Verdict, [Case, ctypes.c_uint16, Curve, *_LIST, *_NUMBERS]),
+    "best_by_curve": (Plan, [Case, ctypes.c_uint16, Curve, *_NUMBERS, *_NUMBERS, *_LIST]),
 }
 
 
@@ -130,7 +142,7 @@ def calls():
 
 
 class _Calls:
-    """read, write, check, best, better, best_by_calendar and work."""
+    """read, write, check, best, better, best_by_calendar, work, table, check_by_curve and best_by_curve."""
 
     def __init__(self, file, library):
         for name, (answer, arguments) in _CALLS.items():

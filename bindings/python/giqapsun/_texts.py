@@ -5,6 +5,8 @@ REFUSALS: dict[int, str] = {
     14: "a list of windows not of whole pairs; a window empty, unsorted or overlapping its neighbour; "
         "a day not of 23 to 25 hours; or first hour plus length of a window or of the day above 8,784",
     15: "an hour of the day in both lists of windows",
+    16: "a coefficient of the curve that is not a number, negative or above 1,000,000, "
+        "or an unused one that is not 0; or a kind that is none of the three",
     1: "file under 16 bytes, or pairs not as laid down",
     2: "a section length, or a count in a record, not as laid down; by calendar, T not the day's number of hours",
     12: "form number neither 2 nor 3",
@@ -21,7 +23,7 @@ REFUSALS: dict[int, str] = {
     13: "a price outside -10,000,000 to 10,000,000",
     9: "checked list not of T outputs",
     10: "lent memory short: 8,192 signed 64-bit numbers to work in, 32,768 where a minimum time is above 8, "
-        "T outputs, or the written file's bytes",
+        "801 for the table of a curve, T outputs, or the written file's bytes",
     11: "best list asked for, and no list keeps every rule",
 }
 

@@ -38,6 +38,21 @@ pub const DAY_LEAST: u16 = 23;
 /// Hours of the longest day of a calendar.
 pub const DAY_MOST: u16 = 25;
 
+/// Signed 64-bit numbers of the table of a curve: costs for 0 to 800 half-megawatt-hours.
+pub const COSTS: usize = 801;
+
+/// Kind of a curve: a alone.
+pub const FLAT: u16 = 0;
+
+/// Kind of a curve: a and b.
+pub const STRAIGHT: u16 = 1;
+
+/// Kind of a curve: a, b and c.
+pub const CURVED: u16 = 2;
+
+/// The largest coefficient of a curve.
+pub const COEFFICIENT_MOST: u32 = 1_000_000;
+
 /// Order of an hour: the unit may be on-line or off-line.
 pub const FREE: u8 = 0;
 
@@ -123,6 +138,18 @@ impl Default for Case {
             hours: 0,
         }
     }
+}
+
+/// The coefficients of a cost curve; those that its kind does not use are 0.
+#[repr(C)]
+#[derive(Clone, Copy, Debug, PartialEq)]
+pub struct Curve {
+    /// Half-mills.
+    pub a: f64,
+    /// Half-mills per half-megawatt-hour.
+    pub b: f64,
+    /// Half-mills per half-megawatt-hour squared.
+    pub c: f64,
 }
 
 /// Number 0 and the case; or a refusal and the record of zeros.
@@ -229,4 +256,36 @@ extern "C" {
     /// times alone; changes no memory.
     #[link_name = "giqapsun_work_4"]
     pub fn giqapsun_work(c: Case) -> usize;
+
+    /// Fills the table of a curve of this kind in `t` lent numbers, at least [`COSTS`]; changes the first of them, as
+    /// many, on a refusal none. Gives 0, or the number of the refusal, 16 or 10.
+    #[link_name = "giqapsun_table_4"]
+    pub fn giqapsun_table(kind: u16, curve: Curve, table: *mut i64, t: usize) -> u32;
+
+    /// Checks a list of `n` outputs by a curve; fills the table on number 0, as [`giqapsun_table`] does.
+    #[link_name = "giqapsun_check_by_curve_4"]
+    pub fn giqapsun_check_by_curve(
+        c: Case,
+        kind: u16,
+        curve: Curve,
+        list: *const u16,
+        n: usize,
+        table: *mut i64,
+        t: usize,
+    ) -> Verdict;
+
+    /// Finds the best list by a curve; fills the table on 0 and 11, as [`giqapsun_table`] does. `work` and
+    /// `outputs` are as for [`giqapsun_best`].
+    #[link_name = "giqapsun_best_by_curve_4"]
+    pub fn giqapsun_best_by_curve(
+        c: Case,
+        kind: u16,
+        curve: Curve,
+        table: *mut i64,
+        t: usize,
+        work: *mut i64,
+        n: usize,
+        outputs: *mut u16,
+        m: usize,
+    ) -> Plan;
 }

@@ -1,8 +1,9 @@
 //! The day of one thermal power unit: case files are read and written, a list of hourly outputs is checked
 //! against the rules of the day, the list that earns most is found, by the case's own hour orders or by those
-//! of a calendar, and the better of two lists is told. A day is the hours of one case, up to the 168 of a week. The
-//! library behind it is proved; this crate lends it memory and turns its answers into Rust's. What a list leaves
-//! for the next day, [`Case::opening_after`] says.
+//! of a calendar, and the better of two lists is told; a list is checked and the best one found by a boiler
+//! maker's cost [`Curve`] too. A day is the hours of one case, up to the 168 of a week. The library behind it is
+//! proved; this crate lends it memory and turns its answers into Rust's. What a list leaves for the next day,
+//! [`Case::opening_after`] says.
 //!
 //! Outputs are whole megawatts, prices and costs mills (thousandths of a dollar), profits half-mills (2,000
 //! to the dollar, exact). A price may be below 0. Hours are counted from 1; hour 0 is the one before the day. A
@@ -59,12 +60,14 @@
 #![deny(missing_docs)]
 
 pub mod boundary;
+mod curve;
 mod opening;
 mod refusal;
 mod rule;
 
 pub use boundary::{Case, DAY_LEAST, DAY_MOST, FILE_MOST, FREE, HOURS, OFF, ON, PRICE_LEAST, PRICE_MOST};
-pub use boundary::{SHORT_TIME, STAGES, WORK, WORK_MOST, YEAR_HOURS};
+pub use boundary::{COEFFICIENT_MOST, COSTS, SHORT_TIME, STAGES, WORK, WORK_MOST, YEAR_HOURS};
+pub use curve::{best_by_curve, check_by_curve, table, Curve};
 pub use opening::Opening;
 pub use refusal::Refusal;
 pub use rule::{rule_text, RULES};
@@ -148,11 +151,7 @@ pub fn write(case: &Case) -> Result<Vec<u8>, Refusal> {
 pub fn check(case: &Case, list: &[u16]) -> Result<Verdict, Refusal> {
     // SAFETY: pointer and length are those of one slice, which is only read.
     let verdict = unsafe { boundary::giqapsun_check(*case, list.as_ptr(), list.len()) };
-    let answer = match verdict.rule {
-        0 => Verdict::Passes { profit: verdict.profit },
-        rule => Verdict::Breaks { hour: verdict.hour, rule },
-    };
-    accepted(verdict.number, answer)
+    accepted(verdict.number, verdict_of(&verdict))
 }
 
 /// Finds the list that keeps every rule and earns most; among equal earners the one that is lower at the
@@ -278,8 +277,8 @@ pub fn better<'a>(case: &Case, first: &'a [u16], second: &'a [u16]) -> &'a [u16]
 }
 
 /// How many numbers a search of this case is lent to work in: [`WORK`] where both minimum times are at most
-/// [`SHORT_TIME`], [`WORK_MOST`] otherwise, whatever else the record holds. [`best`] and [`best_by_calendar`]
-/// lend as many; a caller of [`boundary::giqapsun_best`] lends them himself.
+/// [`SHORT_TIME`], [`WORK_MOST`] otherwise, whatever else the record holds. [`best`], [`best_by_calendar`] and
+/// [`best_by_curve`] lend as many; a caller of [`boundary::giqapsun_best`] lends them himself.
 ///
 /// ```
 /// use giqapsun::{read, working_numbers, WORK, WORK_MOST};
@@ -306,6 +305,14 @@ fn planned(
     let plan = search(&mut work, &mut outputs);
     outputs.truncate(case.hours);
     accepted(plan.number, Plan { outputs, profit: plan.profit })
+}
+
+/// The verdict beside number 0.
+fn verdict_of(verdict: &boundary::Verdict) -> Verdict {
+    match verdict.rule {
+        0 => Verdict::Passes { profit: verdict.profit },
+        rule => Verdict::Breaks { hour: verdict.hour, rule },
+    }
 }
 
 /// The answer beside number 0, or the refusal.

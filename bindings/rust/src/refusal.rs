@@ -37,15 +37,18 @@ pub enum Refusal {
     Calendar,
     /// 15: an hour ordered on-line and off-line.
     Conflict,
+    /// 16: the coefficients of a cost curve.
+    Curve,
     /// A number that this crate does not know.
     Unknown(u32),
 }
 
 impl Refusal {
     /// Every refusal, in the order in which their conditions are tested.
-    pub const ALL: [Refusal; 15] = [
+    pub const ALL: [Refusal; 16] = [
         Refusal::Calendar,
         Refusal::Conflict,
+        Refusal::Curve,
         Refusal::Pairs,
         Refusal::Counts,
         Refusal::Form,
@@ -88,6 +91,7 @@ impl Refusal {
             Refusal::Prices => 13,
             Refusal::Calendar => 14,
             Refusal::Conflict => 15,
+            Refusal::Curve => 16,
             Refusal::Unknown(number) => number,
         }
     }
@@ -117,7 +121,7 @@ impl Refusal {
             Refusal::ListLength => "checked list not of T outputs",
             Refusal::Memory => {
                 "lent memory short: 8,192 signed 64-bit numbers to work in, 32,768 where a minimum time is above 8, \
-                 T outputs, or the written file's bytes"
+                 801 for the table of a curve, T outputs, or the written file's bytes"
             }
             Refusal::NoSchedule => "best list asked for, and no list keeps every rule",
             Refusal::Form => "form number neither 2 nor 3",
@@ -127,6 +131,10 @@ impl Refusal {
                  a day not of 23 to 25 hours; or first hour plus length of a window or of the day above 8,784"
             }
             Refusal::Conflict => "an hour of the day in both lists of windows",
+            Refusal::Curve => {
+                "a coefficient of the curve that is not a number, negative or above 1,000,000, \
+                 or an unused one that is not 0; or a kind that is none of the three"
+            }
             Refusal::Unknown(_) => "a number that is not in the refusal list",
         }
     }

@@ -339,9 +339,9 @@ fn searching_keeps_to_its_memory() {
 #[test]
 fn numbers() {
     assert_eq!(Refusal::from_number(0), None);
-    assert_eq!(Refusal::from_number(16), Some(Refusal::Unknown(16)));
-    assert_eq!(Refusal::Unknown(16).number(), 16);
-    assert_eq!(Refusal::ALL.map(Refusal::number), [14, 15, 1, 2, 12, 3, 4, 5, 6, 7, 8, 13, 9, 10, 11]);
+    assert_eq!(Refusal::from_number(17), Some(Refusal::Unknown(17)));
+    assert_eq!(Refusal::Unknown(17).number(), 17);
+    assert_eq!(Refusal::ALL.map(Refusal::number), [14, 15, 16, 1, 2, 12, 3, 4, 5, 6, 7, 8, 13, 9, 10, 11]);
     for refusal in Refusal::ALL {
         assert_eq!(Refusal::from_number(refusal.number()), Some(refusal));
     }
