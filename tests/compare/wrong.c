@@ -1,7 +1,8 @@
 /*
  * A library that is wrong in one way, named by the variable WRONG: each call gives the answer of a right library,
  * whose functions are called right_read and so on here, and one of them then does something else. What is wrong about
- * days that open and close inside a sequence stands in stages.c, about weeks and long minimum times in weeks.c.
+ * days that open and close inside a sequence stands in stages.c, about weeks and long minimum times in weeks.c, about
+ * cost curves in curves.c.
  */
 #define _POSIX_C_SOURCE 200809L
 #include "wrong.h"

@@ -1,5 +1,5 @@
 /*
- * What the three parts of a wrong library share: the functions of a right one, the way in which this one is wrong, and
+ * What the four parts of a wrong library share: the functions of a right one, the way in which this one is wrong, and
  * what a file has at its head and at its end.
  */
 #include "giqapsun.h"
@@ -16,6 +16,13 @@ struct giqapsun_choice right_better(struct giqapsun_case c, const uint16_t *firs
 struct giqapsun_plan right_best_by_calendar(struct giqapsun_case c, const uint16_t *on, size_t a, const uint16_t *off,
                                             size_t b, uint16_t first, uint16_t hours, int64_t *work, size_t n,
                                             uint16_t *outputs, size_t m);
+
+uint32_t right_table(uint16_t kind, struct giqapsun_curve curve, int64_t *table, size_t t);
+struct giqapsun_verdict right_check_by_curve(struct giqapsun_case c, uint16_t kind, struct giqapsun_curve curve,
+                                             const uint16_t *list, size_t n, int64_t *table, size_t t);
+struct giqapsun_plan right_best_by_curve(struct giqapsun_case c, uint16_t kind, struct giqapsun_curve curve,
+                                         int64_t *table, size_t t, int64_t *work, size_t n, uint16_t *outputs,
+                                         size_t m);
 
 /* Whether the library is wrong in this way. */
 static inline int wrong(const char *way)
