@@ -24,7 +24,7 @@ MAKE = ("make", str(CASES / "case7.toml"), str(CASES / "case7.csv"))
 # each command, with a file to follow
 READING = (
     ("show",), ("best",), ("make", "u.toml"), ("check", "d.case"), ("better", "d.case", "l.csv"),
-    ("best", "d.case", "--first", "0", "--calendar"),
+    ("best", "d.case", "--first", "0", "--calendar"), ("best", "d.case", "--curve"), ("curve",),
 )
 
 
@@ -43,7 +43,8 @@ class Words(ToolTest):
             ["make", "-", "-"], ["show", "d.case", "--json", "--csv"], ["show", "d.case", "--json", "--toml", "u.toml"],
             ["better"], ["better", "d.case", "a.csv"], ["better", "d.case", "-", "-"], ["better", "-", "a.csv", "-"],
             ["better", "d.case", "a.csv", "b.csv", "c.csv"], ["better", "d.case", "a.csv", "b.csv", "--json", "--csv"],
-            ["best", "-", "--calendar", "-", "--first", "0"],
+            ["best", "-", "--calendar", "-", "--first", "0"], ["curve"], ["best", "-", "--curve", "-"],
+            ["check", "d.case", "-", "--curve", "-"], ["best", "d.case", "--calendar", "y.csv", "--curve", "c.toml"],
         ):
             status, printed, message = self.run_tool(*words)
             self.assertEqual((status, printed), (2, b""))
@@ -53,7 +54,7 @@ class Words(ToolTest):
         self.assertEqual(self.run_tool("--version"), (0, f"case {giqapsun.__version__}\n".encode(), ""))
 
     def test_help(self):
-        for words in ((), ("make",), ("show",), ("best",), ("check",), ("better",)):
+        for words in ((), ("make",), ("show",), ("best",), ("check",), ("better",), ("curve",)):
             text = " ".join(self.answered(*words, "--help").decode().split())
             self.assertIn("Exit status: 0 done, and for check and better: a list passes; 1 no list passes", text)
             self.assertIn("2 refused, bad input", text)

@@ -1,5 +1,5 @@
 """The best day of a case, as the library or the program best_day finds it, and its table. Where a calendar gives the
-orders, the library alone finds it."""
+orders, or a curve the costs, the library alone finds it."""
 
 import os
 import re
@@ -9,6 +9,7 @@ from dataclasses import asdict, dataclass, replace
 from pathlib import Path
 
 from calendars import Calendar
+from curves import Curve
 from days import column, days_of
 from ends import closing, stage_of, stop_after
 from faults import Fault, Refused
@@ -33,7 +34,8 @@ CALENDAR_COLUMNS = (*WINDOW_COLUMNS, "date", "zone")
 @dataclass
 class Day:
     """The best day: outputs in MW, energies in half-megawatt-hours, earnings and profit in half-mills; who has found
-    it, `library` or the program's file; and the calendar that the orders of its case come from, if they do."""
+    it, `library` or the program's file; the calendar that the orders of its case come from, and the curve that its
+    costs do, if they do."""
 
     reading: Reading
     outputs: list
@@ -42,6 +44,7 @@ class Day:
     profit: int
     found_by: str
     calendar: Calendar | None = None
+    curve: Curve | None = None
 
     def hours(self):
         """Each hour with its order, price, output, energy and earnings."""
@@ -54,9 +57,14 @@ class Day:
         return closing(self.reading.case, self.outputs)
 
     def notes(self):
-        """What a table of hours has no place for: that orders are replaced, and a stop after the day."""
+        """What a table of hours has no place for: that orders are replaced, a stop after the day, and a curve."""
         yield from self.calendar.replaced() if self.calendar else ()
         yield from self.closing()
+        yield from self.by_curve()
+
+    def by_curve(self):
+        """A line if the costs are those of a curve."""
+        yield from [self.curve.line()] if self.curve else ()
 
 
 def program():
@@ -67,10 +75,13 @@ def program():
     return None if built() else Path(__file__).resolve().parents[2] / "target/bin/best_day"
 
 
-def best_day(file, data, calendar=None):
-    """The best day of the bytes of a file, with its own orders or with those of a calendar."""
+def best_day(file, data, calendar=None, curve=None):
+    """The best day of the bytes of a file, with its own orders or with those of a calendar, or with the costs of a
+    curve."""
     if calendar is not None:
         return _by_calendar(file, data, calendar)
+    if curve is not None:
+        return _by_curve(file, data, curve)
     runs = program()
     if runs is not None:
         return _answered(runs, file, data)
@@ -83,11 +94,29 @@ def best_day(file, data, calendar=None):
     return _day(reading, plan.outputs, plan.profit, "library")
 
 
-def _by_calendar(file, data, calendar):
-    """The best day with the orders of a calendar. It keeps the orders that are shown with it, or it is a fault."""
+def _no_program(what):
+    """A fault where a program is named, which takes no such thing."""
     runs = os.environ.get("GIQAPSUN_BEST_DAY")
     if runs:
-        raise Fault(runs, None, None, "a program takes no calendar; without GIQAPSUN_BEST_DAY the library serves")
+        raise Fault(runs, None, None, f"a program takes no {what}; without GIQAPSUN_BEST_DAY the library serves")
+
+
+def _by_curve(file, data, curve):
+    """The best day with the costs of a curve. The hours earn its profit by the curve's table, or it is a fault."""
+    _no_program("curve")
+    table = curve.table
+    reading = read_case(file, data)
+    try:
+        plan = giqapsun.best_by_curve(reading.case, curve.curve)
+    except giqapsun.Refusal as refused:
+        details = contradiction(reading.case) if refused.number == 11 else ()
+        raise Refused(file, refused.number, details) from None
+    return replace(_day(reading, plan.outputs, plan.profit, "library", table), curve=curve)
+
+
+def _by_calendar(file, data, calendar):
+    """The best day with the orders of a calendar. It keeps the orders that are shown with it, or it is a fault."""
+    _no_program("calendar")
     calendar.test()
     reading = read_case(file, data)
     calendar = calendar.of(reading.case)
@@ -200,8 +229,8 @@ def _numbers(runs, lines, place, form):
     return [int(number) for number in match.groups()]
 
 
-def _day(reading, outputs, profit, found_by):
-    earned = earnings(reading.case, outputs)
+def _day(reading, outputs, profit, found_by, table=None):
+    earned = earnings(reading.case, outputs, table)
     agree(found_by, 1, profit, earned)
     return Day(reading, outputs, energies(reading.case, outputs), earned, profit, found_by)
 
@@ -213,7 +242,7 @@ def best_text(day):
         windows = (f"{window}, line {window.line}" if window else "" for window in day.calendar.windows())
         beside = ["window (first+hours)", *windows, ""]
         lines = [f"{line}  {words}".rstrip() for line, words in zip(lines, beside)]
-    lines += [f"profit {day.profit} half-mills", *day.closing()]
+    lines += [f"profit {day.profit} half-mills", *day.closing(), *day.by_curve()]
     if day.calendar is not None:
         lines += [f"calendar {day.calendar.name}: {day.calendar.day}", *day.calendar.replaced()]
     found = "the library" if day.found_by == "library" else f"the program {day.found_by}"
@@ -244,6 +273,7 @@ def _amounts(energy, earned, width):
 def best_json(day):
     """The day for a program."""
     calendar = {} if day.calendar is None else {"calendar": day.calendar.fields()}
+    curve = {} if day.curve is None else {"curve": day.curve.fields()}
     return json_of({
         "profit_half_mills": day.profit,
         "profit_dollars": machine(dollars_of_half_mills(day.profit)),
@@ -251,6 +281,7 @@ def best_json(day):
         "stop_after_day": stop_after(day.reading.case, day.outputs),
         "opening_after": asdict(giqapsun.opening_after(day.reading.case, day.outputs)),
         **calendar,
+        **curve,
         "hours": [dict(zip((*COLUMNS, *WINDOW_COLUMNS), row)) for row in _rows(day)],
         "read_by": day.reading.by,
         "found_by": day.found_by,

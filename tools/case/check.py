@@ -1,7 +1,8 @@
-"""A list of outputs checked by the library, and its verdict in words."""
+"""A list of outputs checked by the library, with the costs of the case or of a curve, and its verdict in words."""
 
 from dataclasses import dataclass
 
+from curves import Curve
 from ends import closing, stop_after
 from faults import Refused
 from money import dollars_of_half_mills, machine
@@ -13,11 +14,12 @@ from tables import csv_of, json_of
 
 @dataclass
 class Checked:
-    """A verdict, with the case and the list that it is about."""
+    """A verdict, with the case and the list that it is about, and the curve that its profit is reckoned by, if one."""
 
     reading: Reading
     outputs: list
     verdict: giqapsun.Passes | giqapsun.Breaks
+    curve: Curve | None = None
 
     @property
     def passes(self):
@@ -43,7 +45,8 @@ class Checked:
         verdict = self.verdict
         if self.passes:
             earns = f"passes: earns ${dollars_of_half_mills(verdict.profit)} ({verdict.profit} half-mills)"
-            return [earns, *closing(self.reading.case, self.outputs)]
+            by_curve = [self.curve.line()] if self.curve else []
+            return [earns, *closing(self.reading.case, self.outputs), *by_curve]
         return [f"breaks rule {verdict.rule} at hour {verdict.hour}: {verdict.text}", self.breach()]
 
     def fields(self):
@@ -61,9 +64,11 @@ class Checked:
         }
 
 
-def checked(reading, file, outputs):
-    """The verdict on a list; `file` is the list's."""
+def checked(reading, file, outputs, curve=None):
+    """The verdict on a list, by a curve if there is one; `file` is the list's."""
     try:
+        if curve is not None:
+            return Checked(reading, outputs, giqapsun.check_by_curve(reading.case, curve.curve, outputs), curve)
         return Checked(reading, outputs, giqapsun.check(reading.case, outputs))
     except giqapsun.Refusal as refused:
         details = [other_length(reading.case, outputs)] if refused.number == 9 else ()
@@ -82,7 +87,8 @@ def checked_text(checked_list):
 
 def checked_json(checked_list):
     """The verdict for a program, and who has read the case."""
-    return json_of({**checked_list.fields(), "read_by": checked_list.reading.by})
+    curve = {"curve": checked_list.curve.fields()} if checked_list.curve else {}
+    return json_of({**checked_list.fields(), **curve, "read_by": checked_list.reading.by})
 
 
 def checked_csv(checked_list):

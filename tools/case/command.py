@@ -1,4 +1,5 @@
-"""Case files of the day scheduler: make one, show one, find its best day, check a list of outputs, compare two."""
+"""Case files of the day scheduler: make one, show one, find its best day, check a list of outputs, compare two; and
+the costs of a boiler maker's curve."""
 
 import argparse
 import os
@@ -9,6 +10,8 @@ from best import best_csv, best_day, best_json, best_text
 from better import better_csv, better_json, better_text, compared
 from calendars import Calendar
 from check import checked, checked_csv, checked_json, checked_text
+from costs import costs_csv, costs_json, costs_text
+from curves import read_curve
 from dates import Span, hour_number, iso_date, span_of
 from ends import left
 from faults import Fault, Refused, named
@@ -16,6 +19,7 @@ from files import contents, write
 from lists import read_list
 from module import giqapsun
 from plot import svg
+from plot_costs import svg_of_costs
 from plot_two import svg_of_two
 from prices import Hours, prices_text
 from reading import BY, file_of, read_case, reader
@@ -52,18 +56,28 @@ opening that the best list leaves. With --calendar the orders come from the wind
 own. The file begins with the line order,first,hours and has a line for each window: on or off, its first hour, counted
 from 0 at the year's first, and how many hours it holds; those of an order are sorted by first hour. The day is named by
 --first, and has then as many hours as the case unless --hours says another number; or by --date and --zone, and has
-then the 23, 24 or 25 hours that the clocks give it.
+then the 23, 24 or 25 hours that the clocks give it. With --curve an hour costs what a boiler maker's curve says, in
+place of F and A: see curve. A curve and a calendar do not go together.
 """
 
 CHECK = """\
 The list's file begins with the line hour,output and has a line for each hour from 1, outputs in MW; the table that
-best --csv prints is one too.
+best --csv prints is one too. With --curve its profit is reckoned by a boiler maker's curve in place of F and A.
 """
 
 BETTER = """\
 Both lists are checked against the case, and the one to offer is named. A list that passes beats one that does not; then
 the higher profit wins; then the lower output at the first hour where they differ; of identical lists the first is
 named. If neither passes, neither is. Each file is a list as check takes it.
+"""
+
+
+CURVE = """\
+The curve's file holds the coefficients as the maker supplies them, floats of 64 bits from 0 to 1,000,000: a in
+half-mills (2,000 to the dollar), b in half-mills per half-megawatt-hour, c in half-mills per half-megawatt-hour
+squared. An hour of n half-megawatt-hours costs a (flat), b n + a (straight) or (c n + b) n + a (curved): the last
+coefficient that is given tells the kind, or the key kind does. The text has every 50th cost, --json and --csv all of
+them, for 0 to 800 half-megawatt-hours.
 """
 
 
@@ -116,7 +130,7 @@ def show(arguments):
 def best(arguments):
     """The table of the best day; its plot and the unit of the next day go to files of their own."""
     data = contents(arguments.file)
-    day = best_day(arguments.file, data, calendar_of(arguments))
+    day = best_day(arguments.file, data, calendar_of(arguments), curve_of(arguments))
     if arguments.plot is not None:
         write(arguments.plot, svg(day, os.path.basename(named(arguments.file))).encode())
     if arguments.next is not None:
@@ -135,10 +149,20 @@ def calendar_of(arguments):
     return Calendar(Year(arguments.calendar), span_of(arguments.date, arguments.zone))
 
 
+def curve_of(arguments):
+    """The curve of a command line, None where it has none; 16 comes before any case."""
+    if arguments.curve is None:
+        return None
+    read = read_curve(arguments.curve)
+    read.test()
+    return read
+
+
 def check(arguments):
     """The verdict on a list."""
+    by_curve = curve_of(arguments)
     reading = read_case(arguments.file, contents(arguments.file))
-    verdict = checked(reading, arguments.list, read_list(arguments.list))
+    verdict = checked(reading, arguments.list, read_list(arguments.list), by_curve)
     answer = _formed(arguments, verdict, reading, checked_text, checked_json, checked_csv)
     return Answer(answer.data, verdict.status)
 
@@ -154,6 +178,15 @@ def better(arguments):
     return Answer(answer.data, pair.status)
 
 
+def curve(arguments):
+    """The costs of a curve; their picture goes to a file of its own."""
+    read = read_curve(arguments.curve)
+    words = {"text": costs_text, "json": costs_json, "csv": costs_csv}[arguments.form](read)
+    if arguments.plot is not None:
+        write(arguments.plot, svg_of_costs(read).encode())
+    return Answer(words.encode("utf-8", "replace"))
+
+
 def _formed(arguments, answer, reading, text, json, csv):
     """An answer in the form that is asked for; CSV has no place for who has read the case, so it is noted."""
     if arguments.form == "csv":
@@ -165,7 +198,7 @@ def parsed(words):
     """The command line."""
     parser = argparse.ArgumentParser(prog="case", description=__doc__, epilog=STATUSES)
     parser.add_argument("--version", action="version", version=f"case {giqapsun.__version__}")
-    commands = parser.add_subparsers(required=True, metavar="make | show | best | check | better")
+    commands = parser.add_subparsers(required=True, metavar="make | show | best | check | better | curve")
     command = _command(commands, make, "write the case of a unit and its prices", MAKE)
     command.add_argument("unit", metavar="UNIT.toml")
     command.add_argument("prices", metavar="PRICES.csv")
@@ -182,12 +215,14 @@ def parsed(words):
     command.add_argument("--hours", metavar="N", type=hour_number, help="its number of hours, if not that of the case")
     command.add_argument("--date", metavar="YYYY-MM-DD", type=iso_date, help="the day by its date")
     command.add_argument("--zone", metavar="NAME", help="the time zone of the date, as Europe/Madrid")
+    command.add_argument("--curve", metavar="CURVE.toml", help="take the costs from a boiler maker's curve")
     command.add_argument("--plot", metavar="FILE.svg", help="draw outputs, prices and earnings too")
     command.add_argument("--next", metavar="NEXT.toml", help="write the unit's file for the next day too")
     _forms(command)
     command = _command(commands, check, "check a list of outputs", CHECK)
     command.add_argument("file", metavar="DAY.case")
     command.add_argument("list", metavar="LIST.csv")
+    command.add_argument("--curve", metavar="CURVE.toml", help="take the costs from a boiler maker's curve")
     _forms(command)
     command = _command(commands, better, "find which of two lists of outputs to offer", BETTER)
     command.add_argument("file", metavar="DAY.case")
@@ -195,8 +230,13 @@ def parsed(words):
     command.add_argument("second", metavar="SECOND.csv")
     command.add_argument("--plot", metavar="FILE.svg", help="draw both lists and the prices too")
     _forms(command)
+    command = _command(commands, curve, "print the costs of a boiler maker's curve", CURVE)
+    command.add_argument("curve", metavar="CURVE.toml")
+    command.add_argument("--plot", metavar="FILE.svg", help="draw the costs too")
+    _forms(command)
     arguments = parser.parse_args(words)
-    inputs = [getattr(arguments, name, None) for name in ("unit", "file", "list", "first", "second", "calendar")]
+    files = ("unit", "file", "list", "first", "second", "calendar", "curve")
+    inputs = [getattr(arguments, name, None) for name in files]
     inputs.append(arguments.prices if arguments.run is make else None)
     if inputs.count("-") > 1:
         parser.error("standard input can be read as one file only")
@@ -208,7 +248,9 @@ def parsed(words):
 
 
 def _one_day(parser, arguments):
-    """A calendar goes with one day, and a day with a calendar."""
+    """A calendar goes with one day, and a day with a calendar; a curve goes without."""
+    if arguments.calendar is not None and arguments.curve is not None:
+        parser.error("--calendar and --curve do not go together")
     names = {name for name in ("first_hour", "hours", "date", "zone") if getattr(arguments, name) is not None}
     if arguments.calendar is None:
         if names:

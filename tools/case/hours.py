@@ -9,9 +9,12 @@ def energies(case, outputs):
     return [before + output for before, output in _ends(case, outputs)]
 
 
-def earnings(case, outputs):
-    """What each hour earns in half-mills."""
-    return [_earned(case, price, *ends) for price, ends in zip(case.prices, _ends(case, outputs))]
+def earnings(case, outputs, table=None):
+    """What each hour earns in half-mills, by F and A or by the table of a cost curve."""
+    return [
+        price * (before + output) - _costs(case, before, output, table) - _charges(case, before, output)
+        for price, (before, output) in zip(case.prices, _ends(case, outputs))
+    ]
 
 
 def agree(file, line, profit, earned):
@@ -25,9 +28,14 @@ def _ends(case, outputs):
     return zip([case.initial, *outputs], outputs)
 
 
-def _earned(case, price, before, output):
-    """What an hour earns in half-mills: energy sold less F, A if on-line, B for a start, C for a stop."""
-    charges = case.fixed * (output > 0)
-    charges += case.startcost * (before == 0 < output)
-    charges += case.stopcost * (output == 0 < before)
-    return (price - case.variable) * (before + output) - 2 * charges
+def _costs(case, before, output, table):
+    """What an hour costs in half-mills: F for its energy and A if on-line; or the table's entry for its energy,
+    off-line without that for 0."""
+    if table is None:
+        return case.variable * (before + output) + 2 * case.fixed * (output > 0)
+    return table[before + output] - (table[0] if output == 0 else 0)
+
+
+def _charges(case, before, output):
+    """B for a start and C for a stop, in half-mills."""
+    return 2 * (case.startcost * (before == 0 < output) + case.stopcost * (output == 0 < before))

@@ -205,8 +205,9 @@ def scale(amounts):
     return min(0, *near), max(0, *near)
 
 
-def picture(height, hours, heading, note, key, parts):
-    """A picture of a height and of so many hours: a heading, a note below it, the key of the hatches, and the parts."""
+def picture(height, hours, heading, note, key, parts, across=None):
+    """A picture of a height and of so many hours: a heading, a note below it, the key of the hatches, and the parts;
+    `across` names the axis where it is not that of hours."""
     width = right_of(hours) + MARGIN
     ticks = "each tick is the end of its hour, each line that of a day" if divided(hours) else (
         "each tick is the end of its hour"
@@ -222,7 +223,7 @@ def picture(height, hours, heading, note, key, parts):
         text(LEFT, 56, note, kind="note"),
         *key,
         *parts,
-        text((LEFT + right_of(hours)) / 2, height - 14, f"hour k ({ticks})", "middle"),
+        text((LEFT + right_of(hours)) / 2, height - 14, across or f"hour k ({ticks})", "middle"),
         "</svg>",
     ]
     return "\n".join(lines) + "\n"
@@ -255,11 +256,12 @@ class Outputs(Panel):
 
 
 class Prices(Panel):
-    """The panel of prices. F is on it unless it would more than double the scale."""
+    """The panel of prices. F is on it unless it would more than double the scale, or is disregarded."""
 
-    def __init__(self, case, place):
+    def __init__(self, case, place, by_cost=True):
         low, high = scale(case.prices)
-        self.case, self.holds_cost = case, case.variable - low <= 2 * (high - low)
+        self.case, self.by_cost = case, by_cost
+        self.holds_cost = by_cost and case.variable - low <= 2 * (high - low)
         super().__init__(len(case.prices), low, max(high, case.variable if self.holds_cost else 0), place)
 
     def drawn(self):
@@ -270,7 +272,7 @@ class Prices(Panel):
         yield from self.frame("price ($/MWh)", lambda mills: short(dollars_of_mills(mills)))
         if self.holds_cost:
             yield from self.limits([(cost, "variable cost F")])
-        else:
+        elif self.by_cost:
             words = f"variable cost F {dollars_of_mills(cost)} $/MWh is above this scale"
             yield text(self.right, self.top - 12, words, anchor="end", kind="note")
         for hour, price in enumerate(prices, 1):

@@ -1,6 +1,7 @@
 """The best day as an SVG picture: outputs, prices and earnings one above the other, hours along all three. Losses are
 hatched and stand below 0. The windows of a calendar are named above their hours, and their ends have lines. A sequence
-that the day opens or closes in is named below its outputs. More than 48 hours are divided into days."""
+that the day opens or closes in is named below its outputs. More than 48 hours are divided into days. By a cost curve
+F is left out, and the curve is named."""
 
 from days import divided
 from ends import closes
@@ -19,11 +20,14 @@ def svg(day, name):
     """The picture of a day, with the name of its case for a title."""
     case = day.reading.case
     profit, energy = dollars_of_half_mills(day.profit), megawatt_hours(sum(day.energies))
-    earned = f"profit {profit} $, energy {energy} MWh, variable cost F {dollars_of_mills(case.variable)} $/MWh"
+    costs = f"costs by the curve {shortened(day.curve.name)}" if day.curve else (
+        f"variable cost F {dollars_of_mills(case.variable)} $/MWh"
+    )
+    earned = f"profit {profit} $, energy {energy} MWh, {costs}"
     key = legend(case.orders, "{}-line window") if day.calendar else legend(case.orders)
     parts = [
         *_outputs(day),
-        *Prices(case, PRICES).drawn(),
+        *Prices(case, PRICES, by_cost=day.curve is None).drawn(),
         *_earnings(case, day.earnings, day.energies),
         *(_windows(day) if day.calendar else ()),
         *hovers(len(day.outputs), (OUTPUTS[0], EARNINGS[1]), _titles(day)),
