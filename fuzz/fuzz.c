@@ -5,14 +5,15 @@
  *   as a record, byte for byte, with counts, stages and numbers of any size;
  *   as a record brought within the limits, so that every input is also searched, half of them from inside a start or a
  *   stop, some of up to a week or with minimum times of up to 24 hours, and with two fields at a limit or past it; both
- *   are searched by a calendar of the input's own windows too.
+ *   are searched by a calendar of the input's own windows too, and searched and checked by a cost curve of its own.
  * An accepted case that form 2 or the old form can hold is read from a file of that form too.
  * Of each accepted case pairs of lists are compared too: its best list, the best one at the prices in reverse, near
  * misses and the input's own numbers, at its own prices and at prices that leave no margin, where lists earn the same.
  * Every answer is compared with that of the independent scheduler of tests/oracle; its search is left out on
  * large days, where it takes too long. Whatever the answers have to agree in among themselves is tested too.
- * Any difference aborts. The last lines say how often each outcome of a file, of a pair and of a calendar came up, what
- * searched days open and close inside, and how many of them are longer than two days or have long minimum times.
+ * Any difference aborts. The last lines say how often each outcome of a file, of a pair, of a calendar and of a curve
+ * came up, what searched days open and close inside, and how many of them are longer than two days or have long minimum
+ * times.
  */
 #include "giqapsun.h"
 #include <stdio.h>
@@ -42,6 +43,13 @@ struct giqapsun_choice oracle_better(struct giqapsun_case c, const uint16_t *fir
 /* It puts the orders of a calendar in place of the case's own: 0, or the number that refuses calendar or case. */
 uint32_t oracle_fill(struct giqapsun_case *c, const uint16_t *on, size_t a, const uint16_t *off, size_t b,
                      uint16_t first, uint16_t hours);
+
+/* Its calls by a cost curve. */
+uint32_t oracle_table(uint16_t kind, struct giqapsun_curve curve, int64_t *table, size_t t);
+struct giqapsun_verdict oracle_check_by_curve(struct giqapsun_case c, uint16_t kind, struct giqapsun_curve curve,
+                                              const uint16_t *list, size_t n, int64_t *table, size_t t);
+struct giqapsun_plan oracle_best_by_curve(struct giqapsun_case c, uint16_t kind, struct giqapsun_curve curve,
+                                          int64_t *table, size_t t, size_t n, uint16_t *outputs, size_t m);
 
 /* Hours times outputs up to which the independent search is asked. */
 #define SEARCHED 4000
@@ -94,17 +102,19 @@ static uint16_t within(struct bytes *bytes, unsigned low, unsigned high)
 /* The lent memory, and what it held before the call. */
 static int64_t work[MARGIN + WORK_LENT + MARGIN], work_before[MARGIN + WORK_LENT + MARGIN];
 static uint16_t outputs[MARGIN + GIQAPSUN_HOURS + MARGIN], outputs_before[MARGIN + GIQAPSUN_HOURS + MARGIN];
+static int64_t table[MARGIN + GIQAPSUN_COSTS + MARGIN + MARGIN], table_before[sizeof table / sizeof *table];
 static uint8_t file[MARGIN + GIQAPSUN_FILE_MOST + MARGIN], file_before[MARGIN + GIQAPSUN_FILE_MOST + MARGIN];
 
-/* Files, pairs and calendars by their outcome; days that were found from inside a start or a stop, lists that pass and
-   close inside a stop, and those that break 21 at a stop after the day; days that were found past two days, of a whole
-   week, and with a long minimum time, and lists that break 21 or 22 of such a time. */
+/* Files, pairs, calendars and curves by their outcome; days that were found from inside a start or a stop, lists that
+   pass and close inside a stop, and those that break 21 at a stop after the day; days that were found past two days, of
+   a whole week, and with a long minimum time, and lists that break 21 or 22 of such a time. */
 static struct {
     unsigned long old, form_2, form_3, files_refused, by_12, by_13;
     unsigned long refused, neither, alone, profit, tie, identical;
     unsigned long found, by_14, by_15, by_2, by_11, by_others;
     unsigned long from_start, from_stop, to_stop, too_early;
     unsigned long past_two_days, whole_weeks, long_times, by_21, by_22;
+    unsigned long tables, by_16, curve_days, other_lists, curve_lists, curve_11;
 } met;
 
 static void print_met(void)
@@ -119,6 +129,9 @@ static void print_met(void)
     fprintf(stderr, "to a stop %lu, 21 after the day %lu\n", met.to_stop, met.too_early);
     fprintf(stderr, "weeks: past two days %lu, of 168 hours %lu, ", met.past_two_days, met.whole_weeks);
     fprintf(stderr, "minimum times above 8 %lu, 21 of such %lu, 22 %lu\n", met.long_times, met.by_21, met.by_22);
+    fprintf(stderr, "curves: tables %lu, by 16 %lu, days found %lu, ", met.tables, met.by_16, met.curve_days);
+    fprintf(stderr, "with another list %lu, 11 %lu, ", met.other_lists, met.curve_11);
+    fprintf(stderr, "lists passed %lu\n", met.curve_lists);
 }
 
 /* Whether a minimum time is above 8 hours. */
@@ -877,6 +890,189 @@ static void try_calendars(struct giqapsun_case c, struct bytes *rest)
     try_calendar(c, &by);
 }
 
+/* A kind and its coefficients. */
+struct drawn {
+    uint16_t kind;
+    struct giqapsun_curve curve;
+};
+
+/* A float of any bits. */
+static double any_float(struct bytes *bytes)
+{
+    uint64_t bits = 0;
+    double number;
+    for (int i = 0; i < 8; i++)
+        bits = bits << 8 | take8(bytes);
+    memcpy(&number, &bits, sizeof number);
+    return number;
+}
+
+/* A coefficient: mostly within the limits, whole, of halves, of few digits or of many; else any float or one at a
+   limit. */
+static double coefficient(struct bytes *bytes)
+{
+    static const double limits[8] = {0.0, -0.0, 1e6, 1000000.0000000001, -5e-324, 5e-324, 0.5, 999999.5};
+    double fraction = (double)(noise() >> 11) / 9007199254740992.0;
+    switch (take8(bytes) % 8) {
+    case 0:
+        return any_float(bytes);
+    case 1:
+        return limits[take8(bytes) % 8];
+    case 2:
+        return take16(bytes) / 2.0;
+    case 3:
+        return take16(bytes) * 15.0;
+    case 4:
+        return take16(bytes) * fraction;
+    case 5:
+        return 1e6 * fraction;
+    case 6:
+        return take16(bytes) / 1000.0;
+    default:
+        return within(bytes, 0, 100);
+    }
+}
+
+/* A curve of the input's own; once in a while of a kind that is none, or with an unused coefficient. */
+static struct drawn drawn_curve(struct bytes *bytes)
+{
+    struct drawn by = {(uint16_t)(take8(bytes) % 3), {0, 0, 0}};
+    by.curve.a = coefficient(bytes);
+    if (by.kind > GIQAPSUN_FLAT || take8(bytes) % 16 == 0)
+        by.curve.b = coefficient(bytes);
+    if (by.kind == GIQAPSUN_CURVED || take8(bytes) % 16 == 0)
+        by.curve.c = coefficient(bytes) / (take8(bytes) % 2 == 0 ? 1.0 : 4096.0);
+    if (take8(bytes) % 16 == 0)
+        by.kind = take16(bytes);
+    return by;
+}
+
+/* Fills the memory of a table. */
+static void lend_table(void)
+{
+    for (size_t i = 0; i < sizeof table / sizeof *table; i++)
+        table[i] = (int64_t)noise();
+    memcpy(table_before, table, sizeof table);
+}
+
+/* The memory of a table beside what the independent scheduler leaves in the same. */
+static void same_table(void)
+{
+    HOLDS(memcmp(table, table_before, sizeof table) == 0);
+}
+
+/* giqapsun_table, compared: it never falls, and each entry is within a half of the float that it is taken from. */
+static uint32_t filled_in(const struct drawn *by, size_t t)
+{
+    lend_table();
+    uint32_t number = giqapsun_table(by->kind, by->curve, table + MARGIN, t);
+    HOLDS(number == oracle_table(by->kind, by->curve, table_before + MARGIN, t));
+    same_table();
+    HOLDS(number == 0 || number == 10 || number == 16);
+    for (size_t n = 1; n < GIQAPSUN_COSTS && number == 0; n++)
+        HOLDS(table[MARGIN + n - 1] <= table[MARGIN + n]);
+    met.tables += number == 0;
+    met.by_16 += number == 16;
+    return number;
+}
+
+/* giqapsun_check_by_curve, compared; the rule and the hour are those of the check without a curve. */
+static struct giqapsun_verdict checked_by_curve(struct giqapsun_case c, const struct drawn *by, const uint16_t *list,
+                                                size_t n, size_t t)
+{
+    lend_table();
+    struct giqapsun_verdict verdict =
+        giqapsun_check_by_curve(c, by->kind, by->curve, list, n, table + MARGIN, t);
+    struct giqapsun_verdict expected =
+        oracle_check_by_curve(c, by->kind, by->curve, list, n, table_before + MARGIN, t);
+    HOLDS(verdict.number == expected.number && verdict.profit == expected.profit);
+    HOLDS(verdict.hour == expected.hour && verdict.rule == expected.rule);
+    same_table();
+    if (verdict.number == 0) {
+        struct giqapsun_verdict plain = giqapsun_check(c, list, n);
+        HOLDS(plain.number == 0 && plain.hour == verdict.hour && plain.rule == verdict.rule);
+        met.curve_lists += verdict.rule == 0;
+    }
+    return verdict;
+}
+
+/* giqapsun_best_by_curve in so many numbers of a table, numbers to work in and outputs, with the memory compared. */
+static struct giqapsun_plan by_curve_in(struct giqapsun_case c, const struct drawn *by, size_t t, size_t n, size_t m)
+{
+    lend(n);
+    lend_table();
+    struct giqapsun_plan plan = giqapsun_best_by_curve(c, by->kind, by->curve, table + MARGIN, t, work + MARGIN, n,
+                                                       outputs + MARGIN, m);
+    left_as_lent(c, plan, n, m);
+    if (plan.number == 0 || plan.number == 11)
+        HOLDS(oracle_table(by->kind, by->curve, table_before + MARGIN, t) == 0);
+    same_table();
+    return plan;
+}
+
+/* A case by a curve: refused as the independent scheduler does, or its best list, which passes and which no list near
+   it beats; where there is none, neither is there without a curve. */
+static void try_curve(struct giqapsun_case c, const struct drawn *by, struct bytes *rest)
+{
+    size_t numbers = numbers_of(c);
+    uint32_t number = filled_in(by, GIQAPSUN_COSTS + take8(rest) % (MARGIN + 1));
+    HOLDS(filled_in(by, GIQAPSUN_COSTS - 1) == (number == 0 ? 10u : 16u));
+    struct giqapsun_plan plan = by_curve_in(c, by, GIQAPSUN_COSTS, numbers, GIQAPSUN_HOURS);
+    uint16_t best[GIQAPSUN_HOURS + 1] = {0}, list[GIQAPSUN_HOURS + 1] = {0}, plain[GIQAPSUN_HOURS + 1] = {0};
+    memcpy(best, outputs + MARGIN, GIQAPSUN_HOURS * sizeof *best);
+    struct giqapsun_plan without = best_in(c, numbers, GIQAPSUN_HOURS);
+    memcpy(plain, outputs + MARGIN, GIQAPSUN_HOURS * sizeof *plain);
+    HOLDS(plan.number == (number != 0 ? number : without.number));
+    uint32_t lacking = plan.number == 0 || plan.number == 11 ? 10 : plan.number;
+    HOLDS(by_curve_in(c, by, GIQAPSUN_COSTS - 1, numbers, GIQAPSUN_HOURS).number == lacking);
+    HOLDS(by_curve_in(c, by, GIQAPSUN_COSTS, numbers - 1, GIQAPSUN_HOURS).number == lacking);
+    met.curve_11 += plan.number == 11;
+    if (plan.number != 0) {
+        checked_by_curve(c, by, best, GIQAPSUN_HOURS, GIQAPSUN_COSTS);
+        return;
+    }
+    met.curve_days++;
+    met.other_lists += memcmp(best, plain, c.hours * sizeof *best) != 0;
+    if ((c.capacity - c.minimum + 1u) * c.hours <= SEARCHED) {
+        struct giqapsun_plan expected = oracle_best_by_curve(c, by->kind, by->curve, table_before + MARGIN,
+                                                             GIQAPSUN_COSTS, numbers, list, GIQAPSUN_HOURS);
+        HOLDS(plan.profit == expected.profit && memcmp(best, list, c.hours * sizeof *list) == 0);
+    }
+    struct giqapsun_verdict verdict = checked_by_curve(c, by, best, c.hours, GIQAPSUN_COSTS);
+    HOLDS(verdict.number == 0 && verdict.rule == 0 && verdict.profit == plan.profit);
+    HOLDS(checked_by_curve(c, by, plain, c.hours, GIQAPSUN_COSTS + 1).profit <= plan.profit);
+    HOLDS(checked_by_curve(c, by, best, c.hours + 1, 0).number == 9);
+    HOLDS(checked_by_curve(c, by, best, c.hours, GIQAPSUN_COSTS - 1).number == 10);
+    for (int turn = 0; turn < 4; turn++) {
+        memcpy(list, best, sizeof list);
+        change(&c, list, rest);
+        verdict = checked_by_curve(c, by, list, c.hours, GIQAPSUN_COSTS);
+        HOLDS(verdict.rule != 0 || verdict.profit <= plan.profit);
+    }
+    for (size_t k = 0; k < c.hours; k++)
+        list[k] = take16(rest);
+    checked_by_curve(c, by, list, c.hours, GIQAPSUN_COSTS);
+}
+
+/* A case by a curve of the input's own, and by that of its F and A where they are within the limits of one: the same
+   list and profit as without one. */
+static void try_curves(struct giqapsun_case c, struct bytes *rest)
+{
+    struct drawn by = drawn_curve(rest);
+    try_curve(c, &by, rest);
+    if (c.fixed < 0 || c.fixed > GIQAPSUN_COEFFICIENT_MOST / 2 || c.variable < 0 ||
+        c.variable > GIQAPSUN_COEFFICIENT_MOST)
+        return;
+    struct drawn plain = {GIQAPSUN_STRAIGHT, {2.0 * c.fixed, c.variable, 0}};
+    size_t numbers = numbers_of(c);
+    struct giqapsun_plan plan = by_curve_in(c, &plain, GIQAPSUN_COSTS, numbers, GIQAPSUN_HOURS);
+    uint16_t list[GIQAPSUN_HOURS];
+    memcpy(list, outputs + MARGIN, sizeof list);
+    struct giqapsun_plan expected = best_in(c, numbers, GIQAPSUN_HOURS);
+    HOLDS(plan.number == expected.number && plan.profit == expected.profit);
+    HOLDS(plan.number != 0 || memcmp(list, outputs + MARGIN, c.hours * sizeof *list) == 0);
+}
+
 int LLVMFuzzerTestOneInput(const uint8_t *data, size_t size)
 {
     static int begun;
@@ -908,9 +1104,11 @@ int LLVMFuzzerTestOneInput(const uint8_t *data, size_t size)
     HOLDS(written_in(c, GIQAPSUN_FILE_MOST).number == 0);
     try_record(c, &rest);
     try_calendars(c, &rest);
+    try_curves(c, &rest);
     bring_to_limit(&c, &rest);
     bring_to_limit(&c, &rest);
     try_record(c, &rest);
     try_calendars(c, &rest);
+    try_curves(c, &rest);
     return 0;
 }
