@@ -1,14 +1,14 @@
 //! The programmes find the same lists as the library on random days, half of them with prices below zero, and some that
-//! open or close inside a sequence; none takes more row steps than the most. The reader gives the same number and
-//! record as the library for every file.
+//! open or close inside a sequence; none takes more row steps than the most. By random curves they find the same too.
+//! The reader gives the same number and record as the library for every file.
 
 use crate::blocks::Blocks;
 use crate::dice::Dice;
-use crate::library::NOW;
+use crate::library::{self, NOW};
 use crate::queue::Queue;
 use crate::unit::TIME;
-use crate::{days, files, memory, plain, reader, steps};
-use giqapsun::{working_numbers, Case, HOURS, SHORT_TIME, WORK, WORK_MOST};
+use crate::{curves, days, files, memory, plain, reader, steps};
+use giqapsun::{working_numbers, Case, COSTS, HOURS, SHORT_TIME, WORK, WORK_MOST};
 
 /// A programme within the memory.
 type Within = fn(&Case, &mut [i64], &mut [u16]) -> Option<i64>;
@@ -43,6 +43,38 @@ fn random_days() {
     assert!(none > 100, "{none} days without a list");
     assert!(closed > 100, "{closed} days that close inside a stop");
     assert!(long > 1000, "{long} days of more than 48 hours with the more working numbers");
+}
+
+#[test]
+fn random_days_by_curve() {
+    let mut dice = Dice::new();
+    let (mut work, mut costs) = (vec![0i64; WORK_MOST], vec![0i64; COSTS]);
+    let (mut none, mut other) = (0, 0);
+    for round in 0..4_000 {
+        let case = dice.day();
+        let curve = dice.curve(&case);
+        let mut outputs = vec![0; case.hours];
+        let plan = library::best_by_curve(
+            &case,
+            curve,
+            &mut costs,
+            &mut work[..working_numbers(&case)],
+            &mut outputs,
+        );
+        assert!(plan.number == 0 || plan.number == 11, "{round}: refused {}", plan.number);
+        assert_eq!(costs, curves::table(curve), "{round}: {curve:?}");
+        let found = (plan.number == 0).then_some((plan.profit, outputs));
+        none += usize::from(found.is_none());
+        for (name, day) in
+            [("blocks", curves::by_blocks(&case, curve)), ("pairs", curves::by_pairs(&case, curve))]
+        {
+            assert!(day == found, "{round}: {name} {day:?} and not {found:?}: {curve:?} {case:?}");
+        }
+        let plain = plain::best(&case);
+        other += usize::from(found.zip(plain).is_some_and(|(one, other)| one.1 != other.1));
+    }
+    assert!(none > 20, "{none} days without a list");
+    assert!(other > 100, "{other} days with another list than by F and A");
 }
 
 /// Whether a list that keeps the rules ends on its way down below the minimum output.

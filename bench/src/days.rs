@@ -143,6 +143,19 @@ fn to_stop() -> Case {
     case
 }
 
+/// The days that are timed by a curve, with their names.
+pub fn by_curve() -> Vec<(&'static str, Case)> {
+    vec![
+        ("(a) the source's day, 24 h", source(24)),
+        ("(c) 400 outputs, ramps 400, 48 h", wide(400, 48)),
+        ("(m) 400 outputs, ramps 100, 48 h", wide(100, 48)),
+        ("(d) 400 outputs, ramps 20, 48 h", wide(20, 48)),
+        ("(u) ramps 400, minimum times 8, 168 h", week(400, 8)),
+        ("(r) ramps 100, minimum times 8, 168 h", week(100, 8)),
+        ("(v) ramps 20, minimum times 8, 168 h", week(20, 8)),
+    ]
+}
+
 /// Every day with its name.
 pub fn all() -> Vec<(&'static str, Case)> {
     vec![

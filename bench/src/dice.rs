@@ -1,7 +1,7 @@
 //! Random days, and random files, whole and damaged.
 
 use crate::files;
-use giqapsun::{Case, PRICE_LEAST, PRICE_MOST};
+use giqapsun::{Case, Curve, PRICE_LEAST, PRICE_MOST};
 
 /// Limits of the numbers of a file.
 const LIMITS: [i32; 11] = [0, 2, 8, 24, 400, 10_000, 65_535, 1_000_000, 100_000_000, PRICE_LEAST, PRICE_MOST];
@@ -21,6 +21,20 @@ impl Dice {
         self.0 ^= self.0 >> 7;
         self.0 ^= self.0 << 17;
         least + (self.0 % u64::from(most - least + 1)) as u16
+    }
+
+    /// A curve of about the costs of a case, of each kind; some with halves and with many digits.
+    pub fn curve(&mut self, case: &Case) -> Curve {
+        let mut near = |number: i32| {
+            let part = f64::from(self.roll(0, 2_000)) / 1_000.0;
+            (f64::from(number) * part + f64::from(self.roll(0, 3)) / 2.0).min(1e6)
+        };
+        let (a, b) = (near(case.fixed.min(500_000)), near(case.variable));
+        match self.roll(0, 3) {
+            0 => Curve::Flat { a },
+            1 => Curve::Straight { a, b },
+            _ => Curve::Curved { a, b, c: b * f64::from(self.roll(0, 1_000)) / 1_000_003.0 },
+        }
     }
 
     /// A price: of so many from zero up, or about zero, or, once in a while, at a limit.

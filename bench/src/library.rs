@@ -1,8 +1,11 @@
 //! The proved library through its C boundary; with the feature `before` a second one, each of whose functions has
 //! `before_` before its name.
 
-use giqapsun::boundary::{giqapsun_best, giqapsun_check, giqapsun_read, Plan, Reading, Verdict};
-use giqapsun::Case;
+use giqapsun::boundary::{
+    giqapsun_best, giqapsun_best_by_curve, giqapsun_check, giqapsun_read, giqapsun_table,
+};
+use giqapsun::boundary::{Plan, Reading, Verdict};
+use giqapsun::{Case, Curve};
 
 /// The calls of a library that are timed.
 pub struct Library {
@@ -36,6 +39,36 @@ impl Library {
         // The slices are lent for the call alone.
         unsafe { (self.best)(*case, work.as_mut_ptr(), work.len(), outputs.as_mut_ptr(), outputs.len()) }
     }
+}
+
+/// The best day by a curve; the table is filled, and the outputs are where the number is 0.
+pub fn best_by_curve(
+    case: &Case,
+    curve: Curve,
+    table: &mut [i64],
+    work: &mut [i64],
+    outputs: &mut [u16],
+) -> Plan {
+    // The slices are lent for the call alone.
+    unsafe {
+        giqapsun_best_by_curve(
+            *case,
+            curve.kind(),
+            curve.record(),
+            table.as_mut_ptr(),
+            table.len(),
+            work.as_mut_ptr(),
+            work.len(),
+            outputs.as_mut_ptr(),
+            outputs.len(),
+        )
+    }
+}
+
+/// The table of a curve.
+pub fn table(curve: Curve, table: &mut [i64]) -> u32 {
+    // The slice is lent for the call alone.
+    unsafe { giqapsun_table(curve.kind(), curve.record(), table.as_mut_ptr(), table.len()) }
 }
 
 /// The calls of the second library, by the names that bench/run gives them.

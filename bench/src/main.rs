@@ -1,12 +1,14 @@
 //! The proved search, programmes of the same recurrence within the same memory, and a plain one with all the memory
-//! it wants; the proved reading of a file and a plain one; and, with the feature `before`, two proved libraries. All in
-//! turn in one process: least times, medians and ratios. No test rests on a time.
+//! it wants; the proved search by a cost curve and two plain ones; the proved reading of a file and a plain one; and,
+//! with the feature `before`, two proved libraries. All in turn in one process: least times, medians and ratios. No
+//! test rests on a time.
 
 #[cfg(test)]
 mod agreement;
 #[cfg(feature = "before")]
 mod before;
 mod blocks;
+mod curves;
 mod days;
 #[cfg(test)]
 mod dice;
@@ -25,11 +27,11 @@ mod window;
 
 use blocks::Blocks;
 use giqapsun::boundary::Reading;
-use giqapsun::{working_numbers, Case, HOURS, SHORT_TIME};
+use giqapsun::{working_numbers, Case, Curve, COSTS, HOURS, SHORT_TIME};
 use library::NOW;
 use queue::Queue;
 use std::hint::black_box;
-use table::{heads, Rounds, SHORT};
+use table::{heads, Rounds, BY_CURVE, SHORT};
 use times::Times;
 use unit::TIME;
 
@@ -87,6 +89,63 @@ fn searches() {
     println!("with minimum times up to {SHORT_TIME}: {week}; with these and up to 48 h: {two}\n");
 }
 
+/// The times of a day by a curve and what they come to, beside the search without one: in every round each programme
+/// finds the list of the proved search.
+fn by_curve_lines(name: &str, case: &Case, curve: Curve) -> [String; 2] {
+    let (mut costs, mut work) = (vec![0i64; COSTS], vec![0i64; working_numbers(case)]);
+    let (mut outputs, mut list) = (vec![0u16; case.hours], vec![0u16; case.hours]);
+    let [mut proved, mut blocks, mut pairs, mut plain] = [(); 4].map(|()| Times::default());
+    for _ in 0..BY_CURVE[usize::from(case.hours > 48)].rounds {
+        let plan = proved
+            .take(1, || library::best_by_curve(black_box(case), curve, &mut costs, &mut work, &mut outputs));
+        assert!(plan.number == 0, "{name}: {plan:?}");
+        let found = Some((plan.profit, outputs.clone()));
+        assert_eq!(blocks.take(1, || curves::by_blocks(black_box(case), curve)), found, "{name}: blocks");
+        assert_eq!(pairs.take(1, || curves::by_pairs(black_box(case), curve)), found, "{name}: pairs");
+        assert!(plain.take(1, || NOW.best(black_box(case), &mut work, &mut list)).number == 0);
+    }
+    let ratios = [blocks.of(&proved), pairs.of(&proved), plain.of(&proved)].concat();
+    [
+        format!("{name:<42}{proved:.0}{blocks:.0}{pairs:.0}{plain:.0}"),
+        format!("{name:<42}{ratios}{:>7}", starts(case, &outputs)),
+    ]
+}
+
+/// Prints the tables of the search by a curve, and that of filling a table.
+fn searches_by_curve() {
+    heads("day by a curve", &["proved", "plain", "pairs", "no curve"], "");
+    let mut ratios = Vec::new();
+    for (name, case) in days::by_curve() {
+        for (kind, curve) in curves::all(&case) {
+            let letter = name.split(' ').next().unwrap_or_default();
+            let [times, line] = by_curve_lines(&format!("{letter} {kind}, {}", words(&case)), &case, curve);
+            println!("{times}");
+            ratios.push(line);
+        }
+    }
+    let [days, weeks] = BY_CURVE;
+    println!("{days} in turn, {} of a week\n", weeks.rounds);
+    heads("day by a curve", &["proved/plain", "proved/pairs", "proved/no curve"], " starts");
+    println!("{}\n", ratios.join("\n"));
+    heads("table of a curve", &["proved", "rust", "proved/rust"], "");
+    for (kind, curve) in curves::all(&days::source(24)) {
+        let filled = |by: &fn(Curve) -> Vec<i64>| by(black_box(curve));
+        let proved: fn(Curve) -> Vec<i64> = |curve| {
+            let mut costs = vec![0; COSTS];
+            assert!(library::table(curve, &mut costs) == 0);
+            costs
+        };
+        println!("{}", table::line(kind, &SHORT, [proved, curves::table], filled));
+    }
+    println!("{SHORT} in turn\n");
+}
+
+/// A case in a few words: its outputs, ramp and hours.
+fn words(case: &Case) -> String {
+    let outputs = case.capacity - case.minimum + 1;
+    format!("{outputs} outputs, ramp {}, {} h", case.rampup, case.hours)
+}
+
 /// Prints the table of reading.
 fn readings() {
     heads("file", &["proved", "rust", "proved/rust"], "  number");
@@ -100,6 +159,7 @@ fn readings() {
 
 fn main() {
     searches();
+    searches_by_curve();
     readings();
     #[cfg(feature = "before")]
     before::tables();

@@ -1,8 +1,31 @@
 //! The same recurrence as a plain programme with all the memory it wants: the worth of every state of every
-//! hour, the decision that earns it, and the largest over a window by a queue.
+//! hour, the decision that earns it, and the largest over a window by a queue. What hours cost may be another's.
 
 use crate::unit::{State, Unit, NONE};
 use giqapsun::Case;
+
+/// What hours cost.
+pub trait Costs {
+    /// What hour k earns from output q to p.
+    fn gain(&self, unit: &Unit, k: usize, q: usize, p: usize) -> i64;
+
+    /// On-line at each output: the largest over the outputs that the ramps reach, and the lowest of those that earn it,
+    /// from the worth of each output after the hour.
+    fn row(&self, unit: &Unit, k: usize, after: &[(i64, u16)]) -> Vec<(i64, u16)>;
+}
+
+/// F and A of the case.
+struct Own;
+
+impl Costs for Own {
+    fn gain(&self, unit: &Unit, k: usize, q: usize, p: usize) -> i64 {
+        unit.gain(k, q, p)
+    }
+
+    fn row(&self, unit: &Unit, k: usize, after: &[(i64, u16)]) -> Vec<(i64, u16)> {
+        row(unit, k, after)
+    }
+}
 
 /// The worth of each state at the end of an hour, and the output chosen for the hour after it.
 struct Layer {
@@ -38,8 +61,8 @@ impl Layer {
     }
 
     /// The layer of hour k from that of the hour after it.
-    fn before(unit: &Unit, k: usize, after: &Layer) -> Layer {
-        let rows = (0..=unit.lock).map(|j| row(unit, k, &after.rows[j.saturating_sub(1)])).collect();
+    fn before(unit: &Unit, costs: &impl Costs, k: usize, after: &Layer) -> Layer {
+        let rows = (0..=unit.lock).map(|j| costs.row(unit, k, &after.rows[j.saturating_sub(1)])).collect();
         let mut layer = Layer {
             off: vec![(NONE, 0); unit.rest + 1],
             rise: vec![(NONE, 0); unit.rises],
@@ -51,7 +74,7 @@ impl Layer {
             if rest == NONE || !unit.allowed(k, p) {
                 NONE
             } else {
-                unit.gain(k, q, p) + rest
+                costs.gain(unit, k, q, p) + rest
             }
         };
         for d in 1..=unit.rest {
@@ -113,10 +136,15 @@ fn row(unit: &Unit, k: usize, after: &[(i64, u16)]) -> Vec<(i64, u16)> {
 
 /// The best list of an accepted case with its profit; none where no list keeps every rule.
 pub fn best(case: &Case) -> Option<(i64, Vec<u16>)> {
+    best_by(case, &Own)
+}
+
+/// The same with these costs.
+pub fn best_by(case: &Case, costs: &impl Costs) -> Option<(i64, Vec<u16>)> {
     let unit = Unit::of(case);
     let mut layers = vec![Layer::end(&unit)];
     for k in (0..case.hours).rev() {
-        let layer = Layer::before(&unit, k, layers.last().expect("the end"));
+        let layer = Layer::before(&unit, costs, k, layers.last().expect("the end"));
         layers.push(layer);
     }
     layers.reverse();

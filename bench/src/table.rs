@@ -24,6 +24,10 @@ const WEEK: Rounds = Rounds { rounds: 200, calls: 1, digits: 1 };
 /// Those of a check and of reading a file.
 pub const SHORT: Rounds = Rounds { rounds: 200, calls: 1000, digits: 3 };
 
+/// Those of a search by a curve, of up to 48 hours and of more.
+pub const BY_CURVE: [Rounds; 2] =
+    [Rounds { rounds: 40, calls: 1, digits: 1 }, Rounds { rounds: 8, calls: 1, digits: 1 }];
+
 impl Rounds {
     /// The rounds of the search of a case.
     pub fn of(case: &Case) -> Rounds {
