@@ -104,14 +104,13 @@ def _no_program(what):
 def _by_curve(file, data, curve):
     """The best day with the costs of a curve. The hours earn its profit by the curve's table, or it is a fault."""
     _no_program("curve")
-    table = curve.table
     reading = read_case(file, data)
     try:
         plan = giqapsun.best_by_curve(reading.case, curve.curve)
     except giqapsun.Refusal as refused:
         details = contradiction(reading.case) if refused.number == 11 else ()
         raise Refused(file, refused.number, details) from None
-    return replace(_day(reading, plan.outputs, plan.profit, "library", table), curve=curve)
+    return replace(_day(reading, plan.outputs, plan.profit, "library", curve.table), curve=curve)
 
 
 def _by_calendar(file, data, calendar):

@@ -151,11 +151,7 @@ def calendar_of(arguments):
 
 def curve_of(arguments):
     """The curve of a command line, None where it has none; 16 comes before any case."""
-    if arguments.curve is None:
-        return None
-    read = read_curve(arguments.curve)
-    read.test()
-    return read
+    return None if arguments.curve is None else read_curve(arguments.curve).tested()
 
 
 def check(arguments):
@@ -180,7 +176,7 @@ def better(arguments):
 
 def curve(arguments):
     """The costs of a curve; their picture goes to a file of its own."""
-    read = read_curve(arguments.curve)
+    read = curve_of(arguments)
     words = {"text": costs_text, "json": costs_json, "csv": costs_csv}[arguments.form](read)
     if arguments.plot is not None:
         write(arguments.plot, svg_of_costs(read).encode())

@@ -13,8 +13,7 @@ converted, so the library gets the number that the maker wrote.
 
 import math
 import tomllib
-from dataclasses import dataclass
-from functools import cached_property
+from dataclasses import dataclass, replace
 
 from faults import Fault, Refused, named, quoted
 from files import text
@@ -29,11 +28,13 @@ FORMULAS = {"flat": "a", "straight": "b n + a", "curved": "(c n + b) n + a"}
 
 @dataclass(frozen=True)
 class Curve:
-    """A curve, with the file that it stands in: its kind by its word, and its coefficients by their names."""
+    """A curve, with the file that it stands in: its kind by its word, and its coefficients by their names; once it was
+    tested, its costs for 0 to 800 half-megawatt-hours, in half-mills."""
 
     file: str
     kind: str
     coefficients: dict
+    table: list | None = None
 
     @property
     def name(self):
@@ -50,29 +51,29 @@ class Curve:
         """The curve as the library's module has it."""
         return KINDS[self.kind](**self.used)
 
-    @cached_property
-    def table(self):
-        """The costs for 0 to 800 half-megawatt-hours, in half-mills, by the library; 16 with each coefficient at
-        fault."""
-        self.test()
+    def tested(self):
+        """The curve with its table, by the library. It refuses a curve by 16, which comes before any case; the module's
+        curves have no place for unused coefficients, so the tool refuses those."""
+        used, unused = list(self._outside()), list(self._not_zero())
         try:
-            return giqapsun.table(self.curve)
+            costs = giqapsun.table(self.curve)
         except giqapsun.Refusal as refused:
-            raise Refused(self.file, refused.number) from None
+            raise Refused(self.file, refused.number, [*used, *unused]) from None
+        if unused:
+            raise Refused(self.file, 16, unused)
+        return replace(self, table=costs)
 
-    def test(self):
-        """Raises 16, which comes before any case."""
-        faults = list(self._faults())
-        if faults:
-            raise Refused(self.file, 16, faults)
-
-    def _faults(self):
-        for name, number in self.coefficients.items():
-            if name not in self.used:
-                if number != 0:
-                    yield f"{name}: {shown(number)}, 0 allowed in a {self.kind} curve"
-            elif not 0 <= number <= giqapsun.COEFFICIENT_MOST:
+    def _outside(self):
+        """Each coefficient that the kind uses and that is not within the limits."""
+        for name, number in self.used.items():
+            if not 0 <= number <= giqapsun.COEFFICIENT_MOST:
                 yield f"{name}: {shown(number)}, from 0 to {giqapsun.COEFFICIENT_MOST:,} allowed"
+
+    def _not_zero(self):
+        """Each that it does not use and that is not 0."""
+        for name, number in self.coefficients.items():
+            if name not in self.used and number != 0:
+                yield f"{name}: {shown(number)}, 0 allowed in a {self.kind} curve"
 
     def words(self):
         """The curve in a line."""
