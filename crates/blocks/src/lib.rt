@@ -190,7 +190,7 @@ fn top_at(old: &[i64], costs: &[i64], at: usize, n: usize, a: usize, b: usize, k
     money::larger_of(money::larger_of(before, among), after)
 }
 
-// The places s to r of the row get the most that is offered to them.
+// The places s to before e of the row get the most that is offered to them, by the places that a cut looks at.
 fn block(
     row: &mut [i64],
     old: &[i64],
