@@ -20,7 +20,7 @@ use std::hint::black_box;
 
 /// Numbers of random curves and days.
 const CURVES: u64 = 3_000;
-const SMALL: u64 = 6_000;
+const SMALL: u64 = 3_000;
 const LONGER: u64 = 600;
 const FULL: u64 = 60;
 const PLAIN: u64 = 1_500;
