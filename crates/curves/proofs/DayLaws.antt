@@ -5,11 +5,11 @@ use Prim.Native.Nat.{ℕ, zero, suc, _+_, _*_, _≤_, _<_}
 use native.Mathlib.Nat.{suc-mul}
 use native.Mathlib.Omega.{arith}
 use lib.Dec.{T}
-use lib.IntN.{ℤ, pos, natAbs, _+ℤ_, _-ℤ_}
+use lib.IntN.{ℤ, natAbs, _+ℤ_}
 use Rattle.laws.proofs.Magnitude.{abs-+}
 use Rattle.model.specs.declared.Case.{Case}
 use Rattle.model.specs.Limits.{mostOutput}
-use Rattle.model.specs.Symbols.{last, price}
+use Rattle.model.specs.Symbols.{last}
 use Rattle.model.specs.Marks.{p}
 use Rattle.model.specs.Rules.{keeps}
 use Rattle.model.specs.Profit.{profitByTo}
@@ -22,16 +22,11 @@ use Rattle.machine.specs.declared.Terms.{Terms}
 use Rattle.machine.specs.Bounds.{mostEnergy, mostEarned}
 use Rattle.machine.specs.Moves.{tariffOf, charge, earn}
 use Rattle.machine.specs.Fit.{Fair}
-use Rattle.machine.specs.Cases.{marginsOf, chargesOf, termsOf, Pays}
-use Rattle.machine.proofs.Table.Sizes.{earn-abs}
+use Rattle.machine.specs.Cases.{termsOf, Pays}
 use Rattle.machine.proofs.Bridge.CasesLaws.{margin-at}
 use Rattle.machine.proofs.Bridge.FitLaws.{fair-of-limits}
 use Rattle.machine.proofs.Bridge.Profits.{earn-same}
-
--- terms that pay and charge as those of hour k do
-pub record Alike (c : Case) (r : Rates) (k : ℕ) (t : Terms) : Type 0 where
-  pub margin : t .margin .0 ≡ price c (suc k) -ℤ r .variable .0
-  pub charges : t .charges ≡ chargesOf c (r .holds)
+use Rattle.curves.specs.Alike.{Alike}
 
 module _ (c : Case) (e : refusalOf c ≡ 0) {rates : Rates} {costs : List ℤ} {cost : ℕ → ℤ} (pays : Pays rates costs cost)
     (k : ℕ) (h : k < last c) {t : Terms} (like : Alike c rates k t) where

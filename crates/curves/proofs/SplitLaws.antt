@@ -1,18 +1,21 @@
 -- A curve's table is one that the search can be shown, and a table that rises evenly says what rates say. Assumes
 -- nothing.
-use mathlib.Core.Path.{_≡_, refl, sym, ap, _∙_}
+use mathlib.Core.Path.{_≡_, sym, ap, _∙_, subst}
 use mathlib.Core.Logic.{inr}
 use mathlib.Core.List.{List, []}
 use Prim.Native.Nat.{ℕ, zero, suc, _≤_, _<_}
 use native.Mathlib.Numerals.{add-one}
 use native.Mathlib.Decide.{ℕ-discrete}
 use native.Mathlib.Omega.{arith}
-use lib.IntN.{ℤ, pos, natAbs, _+ℤ_, _-ℤ_, _*ℤ_, zero-*ℤ, *ℤ-zero, *ℤ-one, +ℤ-idr}
-use lib.ListN.{length}
+use lib.IntN.{ℤ, pos, negsuc, natAbs, _+ℤ_, _-ℤ_, _*ℤ_, zero-*ℤ, *ℤ-zero, +ℤ-idr}
+use lib.ListN.{length, take}
+use lib.Seq.{take-all}
+use mir.Syntax.{w32}
+use mir.Val.{SFits}
 use Rattle.curve.specs.declared.Kind.{Kind}
 use Rattle.curve.specs.Cost.{costsLength, Usable, tableOf}
 use Rattle.curve.proofs.TableLaws.{table-length, table-most, table-bends}
-use Rattle.laws.proofs.Signed.{linear, parts-+, parts--, parts-pos, multiple-+}
+use Rattle.laws.proofs.Signed.{linear, parts-+, parts--, parts-*, parts-pos, multiple-+}
 use Rattle.model.specs.Limits.{mostVariable}
 use Rattle.model.specs.declared.Mills.{Mills}
 use Rattle.model.specs.declared.HalfMills.{HalfMills}
@@ -84,13 +87,15 @@ even-start costs step =
 next : (x y step : ℤ) (n : ℕ) → x ≡ y +ℤ step *ℤ pos n → x +ℤ step ≡ y +ℤ step *ℤ pos (suc n)
 next x y step n e =
     let more : step *ℤ pos (suc n) ≡ step *ℤ pos n +ℤ step *ℤ pos 1 = rw (add-one n) at (multiple-+ step n 1) in
-    rw (more, *ℤ-one step) (omega (
+    let once = step *ℤ pos 1 in
+    rw more (omega (
       linear,
       e,
       parts-+ y (step *ℤ pos n),
       parts-+ x step,
-      parts-+ (step *ℤ pos n) step,
-      parts-+ y (step *ℤ pos n +ℤ step),
+      parts-* step 1,
+      parts-+ (step *ℤ pos n) once,
+      parts-+ y (step *ℤ pos n +ℤ once),
     ))
 
 pub even-step : {costs : List ℤ} {step : ℤ} (n : ℕ) → Even costs step n → costAt costs (suc n) ≡ costAt costs n +ℤ step
@@ -101,3 +106,16 @@ even-step {costs} {step} n even e =
     go : (k : ℕ) → k ≤ suc n → Dec (k ≡ suc n) → costAt costs k ≡ costAt costs 0 +ℤ step *ℤ pos k
     go k h (no d) = even .at k (omega arith)
     go k h (yes d) = rw d (e ∙ next (costAt costs n) (costAt costs 0) step n (even .at n (omega arith)))
+
+-- where as many entries are shown as the table has, it is shown
+pub whole-shown : {costs : List ℤ} {rates : Rates} {n : ℕ} → length costs ≡ costsLength
+    → (n ≡ costsLength) × Pays rates costs (costAt costs)
+    → (n ≤ costsLength) × Pays rates (take n costs) (costAt costs)
+whole-shown {costs} {rates} {n} long (e, pays) =
+    let whole : take n costs ≡ costs = take-all n costs (omega arith) in
+    (omega arith, subst (λ xs. Pays rates xs (costAt costs)) (sym whole) pays)
+
+-- a small number fits 32 bits
+pub fits-32 : (z : ℤ) → natAbs z ≤ mostVariable → SFits w32 z
+fits-32 (pos n) h = record { sfits = omega arith }
+fits-32 (negsuc n) h = record { sfits = omega arith }

@@ -1,2 +1,3 @@
 -- Definitions that the contracts of the calls by a cost curve cite.
+pub mod Alike
 pub mod Even

@@ -39,7 +39,10 @@ fn even(costs: &[i64], step: HalfMills) -> bool
     let mut n = 0;
     while n < MOST_ENERGY {
         let rise = step_at(costs, n);
-        if rise.0 != step.0 {
+        if money::below(rise, step) {
+            return false;
+        }
+        if money::below(step, rise) {
             return false;
         }
         n += 1;
@@ -70,10 +73,10 @@ pub(crate) fn split_of(costs: &[i64]) -> Split
         × (Pays (r .rates) (take (r .shown) (now (costs .entry))) (costAt (now (costs .entry)))) ⌝ }
 {
     let step = step_at(costs, 0);
-    if step.0 < 0 {
+    if money::below(step, HalfMills(0)) {
         return by_table(costs);
     }
-    if (MOST_VARIABLE as i64) < step.0 {
+    if money::below(HalfMills(MOST_VARIABLE as i64), step) {
         return by_table(costs);
     }
     if even(costs, step) {
