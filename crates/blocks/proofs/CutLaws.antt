@@ -35,79 +35,80 @@ too-low-both a b e h = omega (linear, parts-- a (pos slack), parts-pos slack)
 
 module _ {xs costs : List ℤ} {l r a b low high : ℕ} {v w : ℤ} (g : Ready xs costs r b) (lr : l ≤ r)
     (x : Offers xs costs l a b v) (y : Offers xs costs r a b w)
-    (worse-last : Under xs costs r a low (w -ℤ pos slack)) (worse-first : Under xs costs l high b (v -ℤ pos slack)) where
-  x-high : x .place < high
-  x-high = elim (lt-or-ge (x .place) high) [
-    | inl h ↦ h
-    | inr h ↦ absurd (too-low v (offered xs costs l (x .place)) (x .is) (worse-first .under (x .place) h (x .high)))
-  ]
-
-  y-low : low ≤ y .place
-  y-low = elim (lt-or-ge (y .place) low) [
-    | inl h ↦ absurd (too-low w (offered xs costs r (y .place)) (y .is) (worse-last .under (y .place) (y .low) h))
-    | inr h ↦ h
-  ]
-
-  above : (p q : ℕ) → l ≤ p → p ≤ r → high ≤ q → q < b → offered xs costs p q ≤ℤ offered xs costs p (x .place)
-  above p q lp pr h k =
-      let xh = x-high in
-      worse-up g l p (x .place) q lp pr (omega arith) k
-      (subst (λ (z : ℤ). offered xs costs l q ≤ℤ (z -ℤ pos slack)) (x .is) (worse-first .under q h k))
-
-  beneath : (p q : ℕ) → p ≤ r → a ≤ q → q < low → offered xs costs p q ≤ℤ offered xs costs p (y .place)
-  beneath p q pr h k =
-      let yl = y-low in
-      worse-down g p (y .place) q pr (omega arith) (y .high)
-      (subst (λ (z : ℤ). offered xs costs r q ≤ℤ (z -ℤ pos slack)) (y .is) (worse-last .under q h k))
-
-  -- not both of x and y are left out
-  clash : x .place < low → high ≤ y .place → ⊥
-  clash h k =
-      too-low-both (offered xs costs r (y .place)) (offered xs costs r (x .place))
-      (above r (y .place) lr (omega arith) k (y .high))
-      (subst (λ (z : ℤ). offered xs costs r (x .place) ≤ℤ (z -ℤ pos slack)) (y .is)
-      (worse-last .under (x .place) (x .low) h))
-
-  -- each place that all windows of the block take in is matched
-  matched : (p q : ℕ) → l ≤ p → p ≤ r → a ≤ q → q < b → Matched (offered xs costs p) low high (offered xs costs p q)
-  matched p q lp pr h k = elim (lt-or-ge q low) [
-    | inl under ↦ elim (lt-or-ge (y .place) high) [
-      | inl here ↦ record {
-        place = y .place;
-        low-le = y-low;
-        high-lt = here;
-        match = beneath p q pr h under;
-      }
-      | inr out ↦ record {
-        place = x .place;
-        low-le = elim (lt-or-ge (x .place) low) [ inl z ↦ absurd (clash z out) | inr z ↦ z ];
-        high-lt = x-high;
-        match = ≤ℤ-trans (beneath p q pr h under) (above p (y .place) lp pr out (y .high));
-      }
+    (worse-last : Under xs costs r a low (w -ℤ pos slack)) (worse-first : Under xs costs l high b (v -ℤ pos slack))
+  where
+    x-high : x .place < high
+    x-high = elim (lt-or-ge (x .place) high) [
+      | inl h ↦ h
+      | inr h ↦ absurd (too-low v (offered xs costs l (x .place)) (x .is) (worse-first .under (x .place) h (x .high)))
     ]
-    | inr over ↦ elim (lt-or-ge q high) [
-      | inl here ↦ record {
-        place = q;
-        low-le = over;
-        high-lt = here;
-        match = ≤ℤ-refl (offered xs costs p q);
-      }
-      | inr out ↦ elim (lt-or-ge (x .place) low) [
-        | inl under ↦ record {
+
+    y-low : low ≤ y .place
+    y-low = elim (lt-or-ge (y .place) low) [
+      | inl h ↦ absurd (too-low w (offered xs costs r (y .place)) (y .is) (worse-last .under (y .place) (y .low) h))
+      | inr h ↦ h
+    ]
+
+    above : (p q : ℕ) → l ≤ p → p ≤ r → high ≤ q → q < b → offered xs costs p q ≤ℤ offered xs costs p (x .place)
+    above p q lp pr h k =
+        let xh = x-high in
+        worse-up g l p (x .place) q lp pr (omega arith) k
+        (subst (λ (z : ℤ). offered xs costs l q ≤ℤ (z -ℤ pos slack)) (x .is) (worse-first .under q h k))
+
+    beneath : (p q : ℕ) → p ≤ r → a ≤ q → q < low → offered xs costs p q ≤ℤ offered xs costs p (y .place)
+    beneath p q pr h k =
+        let yl = y-low in
+        worse-down g p (y .place) q pr (omega arith) (y .high)
+        (subst (λ (z : ℤ). offered xs costs r q ≤ℤ (z -ℤ pos slack)) (y .is) (worse-last .under q h k))
+
+    -- not both of x and y are left out
+    clash : x .place < low → high ≤ y .place → ⊥
+    clash h k =
+        too-low-both (offered xs costs r (y .place)) (offered xs costs r (x .place))
+        (above r (y .place) lr (omega arith) k (y .high))
+        (subst (λ (z : ℤ). offered xs costs r (x .place) ≤ℤ (z -ℤ pos slack)) (y .is)
+        (worse-last .under (x .place) (x .low) h))
+
+    -- each place that all windows of the block take in is matched
+    matched : (p q : ℕ) → l ≤ p → p ≤ r → a ≤ q → q < b → Matched (offered xs costs p) low high (offered xs costs p q)
+    matched p q lp pr h k = elim (lt-or-ge q low) [
+      | inl under ↦ elim (lt-or-ge (y .place) high) [
+        | inl here ↦ record {
           place = y .place;
           low-le = y-low;
-          high-lt = elim (lt-or-ge (y .place) high) [ inl z ↦ z | inr z ↦ absurd (clash under z) ];
-          match = ≤ℤ-trans (above p q lp pr out k) (beneath p (x .place) pr (x .low) under);
+          high-lt = here;
+          match = beneath p q pr h under;
         }
-        | inr here ↦ record {
+        | inr out ↦ record {
           place = x .place;
-          low-le = here;
+          low-le = elim (lt-or-ge (x .place) low) [ inl z ↦ absurd (clash z out) | inr z ↦ z ];
           high-lt = x-high;
-          match = above p q lp pr out k;
+          match = ≤ℤ-trans (beneath p q pr h under) (above p (y .place) lp pr out (y .high));
         }
       ]
+      | inr over ↦ elim (lt-or-ge q high) [
+        | inl here ↦ record {
+          place = q;
+          low-le = over;
+          high-lt = here;
+          match = ≤ℤ-refl (offered xs costs p q);
+        }
+        | inr out ↦ elim (lt-or-ge (x .place) low) [
+          | inl under ↦ record {
+            place = y .place;
+            low-le = y-low;
+            high-lt = elim (lt-or-ge (y .place) high) [ inl z ↦ z | inr z ↦ absurd (clash under z) ];
+            match = ≤ℤ-trans (above p q lp pr out k) (beneath p (x .place) pr (x .low) under);
+          }
+          | inr here ↦ record {
+            place = x .place;
+            low-le = here;
+            high-lt = x-high;
+            match = above p q lp pr out k;
+          }
+        ]
+      ]
     ]
-  ]
 
 -- ---- what is looked at
 module _ {xs costs : List ℤ} {base n rd ru s r : ℕ} where

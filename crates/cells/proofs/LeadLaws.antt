@@ -68,8 +68,10 @@ module _ (f : ℕ → Option ℤ) (xs costs : List ℤ) (lo r a b : ℕ) (first 
   unfolding span
   scan-start p e = let d : p - a ≡ 0 = omega arith in rw d leads-start
 
-  pub scan-step : (p : ℕ) (k : Pick) (g y : ℤ) → Held f xs lo a b → a ≤ p → p < b → g ≡ sloped first slope (p - a) -ℤ costAt costs (r + p)
-      → natAbs g ≤ mostLoaded → y ≡ g +ℤ getD xs (p - lo) (pos 0) → Leads (span (onLine f costs r a first slope) a (p - a)) k
+  pub scan-step : (p : ℕ) (k : Pick) (g y : ℤ) → Held f xs lo a b → a ≤ p → p < b → g ≡ sloped first slope (p - a) -ℤ
+      costAt costs (r + p)
+      → natAbs g ≤ mostLoaded → y ≡ g +ℤ getD xs (p - lo) (pos 0) → Leads
+      (span (onLine f costs r a first slope) a (p - a)) k
       → Leads (span (onLine f costs r a first slope) a (p + 1 - a)) (betterPick k (pickAt p y))
   unfolding span
   scan-step p k g y held ha hb eg small ey l =

@@ -10,8 +10,8 @@ pub const COSTS: usize = MOST_ENERGY + 1;
 // A coefficient, at the most.
 pub const MOST_COEFFICIENT: f64 = 1000000.0;
 
-// Binary digits of a float's pattern (specs/Pattern): those of its fraction, and all but its sign. Values are counted in
-// units of 2 ^ -SCALE.
+// Binary digits of a float's pattern (specs/Pattern): those of its fraction, and all but its sign. Values are counted
+// in units of 2 ^ -SCALE.
 pub const FRACTION_DIGITS: u64 = 52;
 
 pub const SIGN_PLACE: u64 = 63;

@@ -3,7 +3,7 @@
 use mathlib.Core.Path.{_≡_, sym, ap, _∙_, subst}
 use mathlib.Core.Logic.{inr}
 use mathlib.Core.List.{List, []}
-use Prim.Native.Nat.{ℕ, zero, suc, _≤_, _<_}
+use Prim.Native.Nat.{ℕ, suc, _≤_}
 use native.Mathlib.Numerals.{add-one}
 use native.Mathlib.Decide.{ℕ-discrete}
 use native.Mathlib.Omega.{arith}
@@ -17,8 +17,6 @@ use Rattle.curve.specs.Cost.{costsLength, Usable, tableOf}
 use Rattle.curve.proofs.TableLaws.{table-length, table-most, table-bends}
 use Rattle.laws.proofs.Signed.{linear, parts-+, parts--, parts-*, parts-pos, multiple-+}
 use Rattle.model.specs.Limits.{mostVariable}
-use Rattle.model.specs.declared.Mills.{Mills}
-use Rattle.model.specs.declared.HalfMills.{HalfMills}
 use Rattle.machine.specs.declared.Rates.{Rates}
 use Rattle.machine.specs.Bounds.{mostEnergy}
 use Rattle.machine.specs.Moves.{costAt, spent}

@@ -1,6 +1,6 @@
 // The check and the search by a boiler maker's cost curve (request F-7; model's specs/Curves): the curve's table is
-// filled in lent numbers, and profit is reckoned by it. 16 refuses a curve before any case is looked at; a table of less
-// than 801 numbers is refused by 10. A refusal other than 11 leaves the table as it was.
+// filled in lent numbers, and profit is reckoned by it. 16 refuses a curve before any case is looked at; a table of
+// less than 801 numbers is refused by 10. A refusal other than 11 leaves the table as it was.
 mod day;
 mod split;
 
@@ -14,10 +14,9 @@ use model::Reading;
 use model::Verdict;
 ghost use mathlib.Core.Path.{_≡_};
 ghost use Prim.Native.Nat.{_≤_};
-ghost use lib.Dec.{T};
 ghost use lib.ListN.{length};
 ghost use Rattle.curve.specs.declared.Kind.{Kind};
-ghost use Rattle.curve.specs.Cost.{costsLength, recordOf, accepted, Usable, tableOf, tabled};
+ghost use Rattle.curve.specs.Cost.{Usable, tableOf};
 ghost use Rattle.model.specs.Rules.{breach};
 ghost use Rattle.model.specs.Best.{bestBy};
 ghost use Rattle.model.specs.Refusals.{workLength, refusalOf};

@@ -46,7 +46,8 @@ pub fn fill(
         × (Saved u (dayOf (now margins) (now orders) charges (now costs)) (l .0) n 0 (now work)) ⌝ }
     requires { ⌜ length (now kept) ≡ keptLength ⌝ }
     ensures { λ r. ⌜ (r .0 ≡ min (b .0) (k .0 + mostPlaces))
-        × (Spanned u (dayOf (now (margins .entry)) (now (orders .entry)) charges (now (costs .entry))) (k .0) (r .0) (now (kept .exit))) ⌝ }
+        × (Spanned u (dayOf (now (margins .entry)) (now (orders .entry)) charges (now (costs .entry))) (k .0) (r .0)
+        (now (kept .exit))) ⌝ }
 {
     let to = b.least(Hour(k.0 + PLACES as u16));
     let mut row = [0i64; ROW];
@@ -106,9 +107,11 @@ pub fn keep_rows(
     requires { ⌜ (k .0 < b .0) × (b .0 ≤ u .hours .0) × (Slotted u (l .0) n (length (now work))) ⌝ }
     requires { ⌜ (Entries u (dayOf (now margins) (now orders) charges (now costs)) 0 (now entries))
         × (Saved u (dayOf (now margins) (now orders) charges (now costs)) (l .0) n 0 (now work)) ⌝ }
-    requires { ⌜ Holds u (dayOf (now margins) (now orders) charges (now costs)) (k .0) (held .end .0) (held .to .0) (now kept) ⌝ }
+    requires { ⌜ Holds u (dayOf (now margins) (now orders) charges (now costs)) (k .0) (held .end .0) (held .to .0)
+        (now kept) ⌝ }
     ensures { λ r. ⌜ (r .end .0 ≡ b .0) × (k .0 < r .to .0)
-        × (Holds u (dayOf (now (margins .entry)) (now (orders .entry)) charges (now (costs .entry))) (k .0) (r .end .0) (r .to .0)
+        × (Holds u (dayOf (now (margins .entry)) (now (orders .entry)) charges (now (costs .entry))) (k .0)
+        (r .end .0) (r .to .0)
         (now (kept .exit))) ⌝ }
 {
     if held.end.0 == b.0 {
@@ -152,10 +155,13 @@ pub fn keep_layers(
     requires { ⌜ (k .0 ≤ u .hours .0) × (Slotted u (l .0) n (length (now work))) ⌝ }
     requires { ⌜ (Entries u (dayOf (now margins) (now orders) charges (now costs)) 0 (now entries))
         × (Saved u (dayOf (now margins) (now orders) charges (now costs)) (l .0) n 0 (now work)) ⌝ }
-    requires { ⌜ Holds u (dayOf (now margins) (now orders) charges (now costs)) (k .0) (held .end .0) (held .to .0) (now kept) ⌝ }
-    ensures { λ r. ⌜ (Free u (dayOf (now (margins .entry)) (now (orders .entry)) charges (now (costs .entry))) (l .0) (k .0) (r .to .0)
+    requires { ⌜ Holds u (dayOf (now margins) (now orders) charges (now costs)) (k .0) (held .end .0) (held .to .0)
+        (now kept) ⌝ }
+    ensures { λ r. ⌜ (Free u (dayOf (now (margins .entry)) (now (orders .entry)) charges (now (costs .entry))) (l .0)
+        (k .0) (r .to .0)
         (now (kept .exit)))
-        × (Holds u (dayOf (now (margins .entry)) (now (orders .entry)) charges (now (costs .entry))) (k .0) (r .end .0) (r .to .0)
+        × (Holds u (dayOf (now (margins .entry)) (now (orders .entry)) charges (now (costs .entry))) (k .0)
+        (r .end .0) (r .to .0)
         (now (kept .exit))) ⌝ }
 {
     if held.end.0 == 0 {
@@ -206,11 +212,14 @@ pub fn keep(
     requires { ⌜ (k .0 < u .hours .0) × (Slotted u (l .0) n (length (now work))) × (Proper u s) ⌝ }
     requires { ⌜ (Entries u (dayOf (now margins) (now orders) charges (now costs)) 0 (now entries))
         × (Saved u (dayOf (now margins) (now orders) charges (now costs)) (l .0) n 0 (now work)) ⌝ }
-    requires { ⌜ Holds u (dayOf (now margins) (now orders) charges (now costs)) (suc (k .0)) (held .end .0) (held .to .0)
+    requires { ⌜ Holds u (dayOf (now margins) (now orders) charges (now costs)) (suc (k .0)) (held .end .0)
+        (held .to .0)
         (now kept) ⌝ }
-    ensures { λ r. ⌜ (Ready u (dayOf (now (margins .entry)) (now (orders .entry)) charges (now (costs .entry))) (l .0) (k .0) (lockOf s)
+    ensures { λ r. ⌜ (Ready u (dayOf (now (margins .entry)) (now (orders .entry)) charges (now (costs .entry))) (l .0)
+        (k .0) (lockOf s)
         (r .to .0) (now (kept .exit)))
-        × (Holds u (dayOf (now (margins .entry)) (now (orders .entry)) charges (now (costs .entry))) (suc (k .0)) (r .end .0) (r .to .0)
+        × (Holds u (dayOf (now (margins .entry)) (now (orders .entry)) charges (now (costs .entry))) (suc (k .0))
+        (r .end .0) (r .to .0)
         (now (kept .exit))) ⌝ }
 {
     let b = locks::end_of(u, k, s);

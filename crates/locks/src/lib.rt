@@ -72,7 +72,8 @@ pub fn fill(
         × (Saved u (dayOf (now margins) (now orders) charges (now costs)) (l .0) n 0 (now work)) ⌝ }
     requires { ⌜ length (now kept) ≡ keptLength ⌝ }
     ensures { λ r. ⌜ (r .end .0 ≡ b .0) × (r .to .0 ≡ min (b .0) (k .0 + mostPlaces))
-        × (Locked u (dayOf (now (margins .entry)) (now (orders .entry)) charges (now (costs .entry))) (k .0) (r .to .0) (b .0)
+        × (Locked u (dayOf (now (margins .entry)) (now (orders .entry)) charges (now (costs .entry))) (k .0)
+        (r .to .0) (b .0)
         (now (kept .exit))) ⌝ }
 {
     let to = b.least(Hour(k.0 + PLACES as u16));

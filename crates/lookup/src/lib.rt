@@ -123,7 +123,8 @@ pub fn from_after(
     e: HalfMills,
 ) -> Pick
     requires { ⌜ Fit u ⌝ }
-    requires { ⌜ (Fair (tariffOf t (now costs))) × (Proper u s) × (k .0 ≤ u .hours .0) × (lockEnd u (k .0) (lockOf s - 1) ≤ k .0) ⌝ }
+    requires { ⌜ (Fair (tariffOf t (now costs))) × (Proper u s) × (k .0 ≤ u .hours .0) ×
+        (lockEnd u (k .0) (lockOf s - 1) ≤ k .0) ⌝ }
     requires { ⌜ (Slotted u (l .0) n (length (now work))) × (length (now kept) ≡ keptLength)
         × (to .0 ≤ k .0 + mostPlaces) ⌝ }
     requires { ⌜ ((day : ℕ → Tariff) × ((i : ℕ) → Fair (day i)) × Saved u day (l .0) n 0 (now work)
@@ -164,8 +165,10 @@ pub fn choose(
     requires { ⌜ (k .0 < u .hours .0) × (Slotted u (l .0) n (length (now work))) × (Proper u s) ⌝ }
     requires { ⌜ (Entries u (dayOf (now margins) (now orders) charges (now costs)) 0 (now entries))
         × (Saved u (dayOf (now margins) (now orders) charges (now costs)) (l .0) n 0 (now work)) ⌝ }
-    requires { ⌜ Ready u (dayOf (now margins) (now orders) charges (now costs)) (l .0) (k .0) (lockOf s) (to .0) (now kept) ⌝ }
-    ensures { λ r. ⌜ r ≡ pickOf (choiceAt (machine u (dayOf (now (margins .entry)) (now (orders .entry)) charges (now (costs .entry))))
+    requires { ⌜ Ready u (dayOf (now margins) (now orders) charges (now costs)) (l .0) (k .0) (lockOf s) (to .0)
+        (now kept) ⌝ }
+    ensures { λ r. ⌜ r ≡ pickOf (choiceAt (machine u (dayOf (now (margins .entry)) (now (orders .entry)) charges
+        (now (costs .entry))))
         (k .0) s) ⌝ }
 {
     let after = k.next();

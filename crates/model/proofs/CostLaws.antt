@@ -2,14 +2,14 @@
 -- Assumes nothing.
 use mathlib.Core.Path.{_≡_, refl, sym, ap, _∙_}
 use mathlib.Core.List.{List}
-use Prim.Native.Nat.{ℕ, zero, suc, _+_, _*_, _-_, _≤_, _<_}
+use Prim.Native.Nat.{ℕ, zero, suc, _+_, _*_, _-_, _≤_}
 use native.Mathlib.Omega.{arith}
 use lib.Dec.{T}
 use lib.IntN.{ℤ, pos, _+ℤ_, _-ℤ_, _*ℤ_, *ℤ-zero}
 use Rattle.curve.specs.Cost.{mostEnergy}
-use Rattle.laws.proofs.Signed.{linear, parts-eq, parts-+, parts--, parts-pos, multiple-+}
+use Rattle.laws.proofs.Signed.{linear, parts-eq, parts-+, parts--, multiple-+}
 use Rattle.model.specs.declared.Case.{Case}
-use Rattle.model.specs.Symbols.{sum, before, last, A, B, C, F, price}
+use Rattle.model.specs.Symbols.{sum, last, A, B, C, F, price}
 use Rattle.model.specs.Marks.{p, v, y, z}
 use Rattle.model.specs.Rules.{keeps}
 use Rattle.model.specs.Profit.{energy, profitOf, profitByAt, profitByTo, profitBy, plainCost}

@@ -1,17 +1,16 @@
 -- What the check and the search by a cost curve answer and leave, refusal by refusal. Assumes nothing.
-use mathlib.Core.Path.{_≡_, refl, sym, ap, _∙_, subst}
+use mathlib.Core.Path.{_≡_, refl, sym, ap, _∙_}
 use mathlib.Core.Logic.{_⊎_, inl, inr, _↔_}
 use mathlib.Core.Bool.{Bool, true, false, not, _||_}
 use mathlib.Core.List.{List, [], _∷_}
 use mathlib.Core.Option.{Option, none, some}
 use Prim.Native.Nat.{ℕ, _≤_, _<_}
-use native.Mathlib.Decide.{ℕ-discrete, decLt}
+use native.Mathlib.Decide.{ℕ-discrete}
 use native.Mathlib.Omega.{arith}
 use borrow.Author.Tests.{eq-eqb, ne-eqb, lt-ltb, le-ltb}
 use lib.Dec.{T, ltb, lt→ltb}
-use lib.IntN.{ℤ, pos}
-use lib.ListN.{length, drop}
-use lib.Seq.{take-at, drop-at}
+use lib.IntN.{ℤ}
+use lib.ListN.{length}
 use Rattle.curve.specs.declared.Kind.{Kind}
 use Rattle.curve.specs.Cost.{costsLength, recordOf, accepted, tabled}
 use Rattle.laws.proofs.Tests.{T→true, not→false, left→or, right→or}
@@ -24,8 +23,8 @@ use Rattle.model.specs.declared.Verdict.the-variants.{Passes, Breaks as 
 use Rattle.model.specs.Symbols.{last}
 use Rattle.model.specs.Rules.{breach, keeps}
 use Rattle.model.specs.Best.{Best, bestBy}
-use Rattle.model.specs.Refusals.{refusal9, workLength, refusal10, firstOf, tests, refusalOf}
-use Rattle.model.specs.Answers.{judged, Scheduling, planned, verdictNumbers, planNumbers}
+use Rattle.model.specs.Refusals.{refusal9, workLength, refusal10, firstOf, refusalOf}
+use Rattle.model.specs.Answers.{judged, planned, verdictNumbers, planNumbers}
 use Rattle.model.specs.Curves.{Filling, refusal16, earnedBy, notChecked, checkedBy, checkByCurveOf, notSearched}
 use Rattle.model.specs.Curves.{scheduledBy, scheduleByCurveOf}
 use Rattle.model.specs.Promises.{FindsList, FindsNone, Fills}
@@ -174,7 +173,8 @@ module _ (k : Kind) where
         searched = scheduleByCurveOf-planned e room long outs
 
         pub curve-finds : (l : List ℕ) → Best (keeps c) (earnedBy k c) l
-            → Fills k table (FindsList c (earnedBy k c l) work outputs l) (scheduleByCurveOf k Accepted c table work outputs)
+            → Fills k table (FindsList c (earnedBy k c l) work outputs l)
+            (scheduleByCurveOf k Accepted c table work outputs)
         curve-finds l b =
             rw (searched, bestBy-some c e (earnedBy k c) b)
             (record {
@@ -217,7 +217,11 @@ module _ (k : Kind) where
           numbers d = ap (λ (f : Filling Verdict). verdictNumbers (f .answer)) (sym d ∙ w)
 
           verdict : {x : Option Breach} → breach c l ≡ x
-              → _≡_ {A = Filling Verdict} (record { answer = judged (earnedBy k c l) (breach c l); table = tabled k table })
+              → _≡_ {A = Filling Verdict} (record {
+                answer = judged (earnedBy k c l) (breach c l);
+                table = tabled k
+                    table;
+              })
               (record { answer = judged (earnedBy k c l) x; table = tabled k table })
           verdict d = ap (λ r. record { answer = judged (earnedBy k c l) r; table = tabled k table }) d
 
@@ -225,7 +229,8 @@ module _ (k : Kind) where
           go (no h) x d = absurd (let z = ap (λ t. t .0) (numbers (checkByCurveOf-length c l table e h)) in omega arith)
           go (yes h) none d = kept-of-none c l h d
           go (yes h) (some b) d =
-              absurd (breach-rule c l b d (ap (λ t. t .2) (numbers (checkByCurveOf-judged c l table e h room ∙ verdict d))))
+              absurd (breach-rule c l b d (ap (λ t. t .2) (numbers
+              (checkByCurveOf-judged c l table e h room ∙ verdict d))))
 
       pub curve-passes : T (keeps c l) ↔ (checkByCurveOf k Accepted c l table ≡ passing)
       curve-passes = (passes-of-keeps, keeps-of-passes)

@@ -251,7 +251,8 @@ module _ (file : List ℕ) (work : List ℤ) (outputs : List ℕ) (long : length
   hours-room e = omega (arith, limits-of-refusalOf c e .hours-le)
 
   planned-text : refusalOf c ≡ 0 → (b : Option (List ℕ)) → bestDay c ≡ b
-      → dayText c b ≡ planText c (planned c (profitOf c) work outputs b .outputs) (planned c (profitOf c) work outputs b .answer)
+      → dayText c b ≡ planText c (planned c (profitOf c) work outputs b .outputs)
+      (planned c (profitOf c) work outputs b .answer)
   unfolding dayText planText planned
   planned-text e none d = refl
   planned-text e (some l) d =

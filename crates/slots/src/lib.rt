@@ -177,7 +177,8 @@ pub fn descend(
     requires { ⌜ Day u (now margins) (now orders) charges (now costs) ⌝ }
     requires { ⌜ (Based u (dayOf (now margins) (now orders) charges (now costs)) (k .0) (h .0) (now row) (now side))
         × (Entries u (dayOf (now margins) (now orders) charges (now costs)) 0 (now entries)) ⌝ }
-    ensures { λ _. ⌜ Layer u (worth u (dayOf (now (margins .entry)) (now (orders .entry)) charges (now (costs .entry))) (k .0))
+    ensures { λ _. ⌜ Layer u (worth u (dayOf (now (margins .entry)) (now (orders .entry)) charges
+        (now (costs .entry))) (k .0))
         (now (row .exit)) (now (side .exit)) ⌝ }
 {
     let mut at = h;
@@ -208,7 +209,8 @@ pub fn layer_at(
     requires { ⌜ (Entries u (dayOf (now margins) (now orders) charges (now costs)) 0 (now entries))
         × (Saved u (dayOf (now margins) (now orders) charges (now costs)) (l .0) n 0 (now work)) ⌝ }
     requires { ⌜ (cellsOf u ≤ length (now row)) × (length (now side) ≡ sideLength) ⌝ }
-    ensures { λ _. ⌜ Layer u (worth u (dayOf (now (margins .entry)) (now (orders .entry)) charges (now (costs .entry))) (k .0))
+    ensures { λ _. ⌜ Layer u (worth u (dayOf (now (margins .entry)) (now (orders .entry)) charges
+        (now (costs .entry))) (k .0))
         (now (row .exit)) (now (side .exit)) ⌝ }
 {
     let h = base_layer(u, k, l, n, work, row, side);

@@ -24,7 +24,8 @@ pub data Drifted : Option ℤ → ℤ → Type 0 where
   kept : (v : ℤ) → natAbs v ≤ mostOffer → Drifted (some v) v
 
 -- a line's amount is added, less an entry of a table
-pub drifted-add : {x : Option ℤ} (g : ℤ) → natAbs g ≤ mostLoaded → Bounded mostWorth x → Drifted (add g x) (g +ℤ coded x)
+pub drifted-add : {x : Option ℤ} (g : ℤ) → natAbs g ≤ mostLoaded → Bounded mostWorth x → Drifted (add g x)
+    (g +ℤ coded x)
 unfolding up down
 drifted-add g h gone = lost (g +ℤ missing) (omega (linear, parts-+ g missing, abs-parts g))
 drifted-add g h (amount {v} w) = kept (g +ℤ v) (omega (arith, abs-+ g v))

@@ -1,6 +1,6 @@
 -- `best::find_plain` meets its contract: F and A are what an hour costs without a table. Assumes nothing.
 use borrow.Author.Needs.{needs}
-use mathlib.Core.Path.{_≡_, refl, sym, ap, _∙_}
+use mathlib.Core.Path.{ap, _∙_}
 use mathlib.Core.List.{[]}
 use Rattle.model.specs.Profit.{plainCost}
 use Rattle.model.specs.Answers.{Scheduling}
@@ -13,8 +13,17 @@ use Rattle.best.proofs.find_plain.Tie as tie
 find-requires : tie.Need-find-requires
 find-requires c κs =
     let r = c .before .before .before in
-    let s = r .before .before in
-    (s .pre .0, (s .pre .1, (plainCost (s .args .case), rw (r .rates-of .ensures) (own-pays (s .args .case) (s .pre .0)))))
+    let s = r .before .before in (
+      s .pre .0,
+      (
+        s .pre .1,
+        (
+          plainCost (s .args .case),
+          rw (r .rates-of .ensures)
+              (own-pays (s .args .case) (s .pre .0)),
+        ),
+      ),
+    )
 
 returns : tie.Need-returns
 returns c =

@@ -3,7 +3,6 @@
 use borrow.Author.Needs.{needs}
 use mathlib.Core.Path.{refl, sym, ap, _∙_, subst}
 use native.Mathlib.Omega.{arith}
-use Prim.Native.Nat.{ℕ}
 use lib.IntN.{pos, _-ℤ_}
 use lib.ListN.{length, getD}
 use Rattle.model.specs.Limits.{mostHours}
@@ -29,7 +28,8 @@ start c =
 
 -- what the search found, of the case's own unit, hours and opening
 module _ (c : tie.After-search-first) where
-  found : Found (unitOf (start c .args .case)) (termsOf (start c .args .case) (start c .args .rates) (start c .args .costs .now))
+  found : Found (unitOf (start c .args .case)) (termsOf (start c .args .case) (start c .args .rates)
+      (start c .args .costs .now))
       (openingOf (start c .args .case)) (start c .args .outputs .now)
       (c .search-first .last .1 .1 .1 .1 .1 .1 .1 .1 .0) (c .search-first .result .0)
   unfolding marginsOf ordersOf

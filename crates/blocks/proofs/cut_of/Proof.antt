@@ -32,7 +32,8 @@ returns-2 c =
     let ends = c .before .before .ends-near .ensures in
     let l = c .before .before .before in
     let s = entry l in
-    enough-shared (s .pre .0 .0) (s .pre .0 .1) (s .pre .1) (l .before .before .less .ensures) (l .before .least .ensures)
+    enough-shared (s .pre .0 .0) (s .pre .0 .1) (s .pre .1) (l .before .before .less .ensures)
+    (l .before .least .ensures)
     (omega arith) (low .0) (high .1) (ends .0) (ends .1) (low .2) (high .2)
 
 pub cut-of-spec : {M : Type 1} → statement M

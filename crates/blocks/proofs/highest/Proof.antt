@@ -1,4 +1,5 @@
--- `blocks::highest` meets its contract. The invariant: the places from q to b offer `mark` at the most. Assumes nothing.
+-- `blocks::highest` meets its contract. The invariant: the places from q to b offer `mark` at the most. Assumes
+-- nothing.
 use borrow.Author.Needs.{needs}
 use mathlib.Core.Path.{sym, _∙_}
 use Prim.Native.Nat.{_≤_}

@@ -1,12 +1,8 @@
 -- `cells::cost_at` meets its contract: without a table every entry is 0. Assumes nothing.
-use borrow.Author.Needs.{needs}
 use native.Mathlib.Omega.{arith}
-use mathlib.Core.Path.{_≡_, refl, sym, subst}
+use mathlib.Core.Path.{sym}
 use mathlib.Core.Logic.{_⊎_, ⊎-elim}
-use Prim.Native.Nat.{_≤_, _<_}
-use lib.IntN.{natAbs}
-use lib.ListN.{length, List·getD-eq-default}
-use Rattle.machine.specs.Bounds.{mostEnergy, mostCost}
+use lib.ListN.{List·getD-eq-default}
 use Rattle.cells.proofs.cost_at.Statement.{statement}
 use Rattle.cells.proofs.cost_at.Tie as tie
 

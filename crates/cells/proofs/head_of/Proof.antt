@@ -1,5 +1,4 @@
 -- `cells::head_of` meets its contract: the product, the difference and the sum stay within 64 bits. Assumes nothing.
-use borrow.Author.Needs.{needs}
 use native.Mathlib.Omega.{arith}
 use mathlib.Core.Path.{refl}
 use Prim.Native.Nat.{_+_, _*_, _≤_}

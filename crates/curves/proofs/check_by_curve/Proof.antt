@@ -1,5 +1,5 @@
--- `curves::check_by_curve` meets its contract: 16, a refused reading, a refused record, a list of another length, a table
--- that is too short, else the verdict by the filled table. Assumes nothing.
+-- `curves::check_by_curve` meets its contract: 16, a refused reading, a refused record, a list of another length, a
+-- table that is too short, else the verdict by the filled table. Assumes nothing.
 use borrow.Author.Needs.{needs}
 use borrow.Author.Tests.{not-true, not-false}
 use native.Mathlib.Omega.{arith}
@@ -52,7 +52,11 @@ answered c =
 -- what is answered and left
 given : {f g : Filling Verdict} {v : Verdict} {table : List ℤ} → f ≡ g → (v ≡ g .answer) × (table ≡ g .table)
     → (v ≡ f .answer) × (table ≡ f .table)
-given e h = (h .0 ∙ ap (λ (x : Filling Verdict). x .answer) (sym e), h .1 ∙ ap (λ (x : Filling Verdict). x .table) (sym e))
+given e h = (
+  h .0 ∙ ap (λ (x : Filling Verdict). x .answer) (sym e),
+  h .1 ∙ ap (λ (x : Filling Verdict). x .table)
+      (sym e),
+)
 
 returns : tie.Need-returns
 returns c =

@@ -61,7 +61,8 @@ returns c =
     λ k u e.
     let sum = c .earned .ensures _ (b .by-table .ensures .1) ∙ earned-kind k e (a .case) (a .list .now) in
     ap (λ (x : ℤ). Passes (record { 0 = x })) sum
-    ∙ sym (ap (judged (earnedBy k (a .case) (a .list .now))) (clean t) ∙ judged-none (earnedBy k (a .case) (a .list .now)))
+    ∙ sym (ap (judged (earnedBy k (a .case) (a .list .now))) (clean t) ∙ judged-none
+    (earnedBy k (a .case) (a .list .now)))
 
 returns-2 : tie.Need-returns-2
 returns-2 c =

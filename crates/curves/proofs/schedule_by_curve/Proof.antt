@@ -1,5 +1,5 @@
--- `curves::schedule_by_curve` meets its contract: 16, a refused reading, a refused record, memory that is too short, else
--- the search by the filled table. Assumes nothing.
+-- `curves::schedule_by_curve` meets its contract: 16, a refused reading, a refused record, memory that is too short,
+-- else the search by the filled table. Assumes nothing.
 use borrow.Author.Needs.{needs}
 use borrow.Author.Tests.{not-true, not-false}
 use native.Mathlib.Omega.{arith}
@@ -49,7 +49,8 @@ usable c = record { floats = kind-held (kind (c .before)) (start (c .before) .go
 abbrev answered : tie.After-accepts → Filling Scheduling
 answered c =
     let a = start c .args in
-    scheduleByCurveOf (a .kind) (a .reading .outcome) (a .reading .case) (a .table .now) (a .work .now) (a .outputs .now)
+    scheduleByCurveOf (a .kind) (a .reading .outcome) (a .reading .case) (a .table .now) (a .work .now)
+    (a .outputs .now)
 
 -- what is answered and left
 abbrev Given : Filling Scheduling → Plan → List ℤ → List ℤ → List ℕ → Type 0
@@ -101,7 +102,8 @@ returns-2 c =
     let a = start (e .before) .args in
     given
     (ap (λ o. scheduleByCurveOf (a .kind) o (a .reading .case) (a .table .now) (a .work .now) (a .outputs .now)) told
-    ∙ scheduleByCurveOf-refused (a .kind) (good e) (a .reading .case) (a .table .now) (a .work .now) (a .outputs .now) _)
+    ∙ scheduleByCurveOf-refused (a .kind) (good e) (a .reading .case) (a .table .now) (a .work .now) (a .outputs .now)
+    _)
     (ap NotPlanned (c .number .ensures ∙ ap outcomeNumber told), (refl, (refl, refl)))
 
 refusal-of-requires : tie.Need-refusal-of-requires
@@ -142,7 +144,8 @@ returns-4 c =
     let e = c .before .before in
     let d = e .before in
     let a = start (passed d .before) .args in
-    given (read d ∙ scheduleByCurveOf-short (a .kind) (good (passed d)) (a .reading .case) (a .table .now) (a .work .now)
+    given (read d ∙ scheduleByCurveOf-short (a .kind) (good (passed d)) (a .reading .case) (a .table .now)
+    (a .work .now)
     (a .outputs .now) (within e) (inl (c .if3 .taken))) (refl, (refl, (refl, refl)))
 
 returns-5 : tie.Need-returns-5
@@ -151,7 +154,8 @@ returns-5 c =
     let e = w .before in
     let d = e .before in
     let a = start (passed d .before) .args in
-    given (read d ∙ scheduleByCurveOf-short (a .kind) (good (passed d)) (a .reading .case) (a .table .now) (a .work .now)
+    given (read d ∙ scheduleByCurveOf-short (a .kind) (good (passed d)) (a .reading .case) (a .table .now)
+    (a .work .now)
     (a .outputs .now) (within e) (inr (inl (rw (w .work-of .ensures) at (c .if4 .taken))))) (refl, (refl, (refl, refl)))
 
 returns-6 : tie.Need-returns-6
@@ -160,7 +164,8 @@ returns-6 c =
     let e = w .before in
     let d = e .before in
     let a = start (passed d .before) .args in
-    given (read d ∙ scheduleByCurveOf-short (a .kind) (good (passed d)) (a .reading .case) (a .table .now) (a .work .now)
+    given (read d ∙ scheduleByCurveOf-short (a .kind) (good (passed d)) (a .reading .case) (a .table .now)
+    (a .work .now)
     (a .outputs .now) (within e) (inr (inr (c .if5 .taken)))) (refl, (refl, (refl, refl)))
 
 -- past all tests: where the memory was measured
@@ -233,7 +238,8 @@ returns-7 c =
     let r = i .find .ensures in
     given (read (w .before .before)
     ∙ scheduleByCurveOf-planned (a .kind) (good p) (a .reading .case) (a .table .now) (a .work .now) (a .outputs .now)
-    (within (w .before)) (g .before .before .before .if3 .left) (omega (arith, w .work-of .ensures, g .before .before .if4 .left))
+    (within (w .before)) (g .before .before .before .if3 .left)
+    (omega (arith, w .work-of .ensures, g .before .before .if4 .left))
     (g .if5 .left)) (
       r .0 (a .kind) (usable p) (shown f),
       (

@@ -17,7 +17,8 @@ use Rattle.locks.proofs.fill.Tie as tie
 abbrev Inv-loop : tie.InvT-loop
 Inv-loop u charges margins orders costs k b n entries work kept₀ to row₀ wide h₀ kept row h =
     (k .0 ≤ h .0) × (h .0 ≤ to .0)
-    × ((j : ℕ) → b .0 ≡ lockEnd u (h .0) j → Row u (worth u (dayOf margins orders charges costs) (h .0)) j (cellsOf u) row)
+    × ((j : ℕ) → b .0 ≡ lockEnd u (h .0) j → Row u (worth u (dayOf margins orders charges costs) (h .0)) j (cellsOf u)
+    row)
     × Locked u (dayOf margins orders charges costs) (h .0) (to .0) (b .0) kept
 
 abbrev μ-loop : tie.MeasureT-loop

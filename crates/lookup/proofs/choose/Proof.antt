@@ -26,7 +26,8 @@ abbrev start : tie.After-end-of → tie.Start
 start c = c .before .before .before .before .before .before .before
 
 abbrev day : tie.After-end-of → ℕ → Tariff
-day c = dayOf (start c .args .margins .now) (start c .args .orders .now) (start c .args .charges) (start c .args .costs .now)
+day c = dayOf (start c .args .margins .now) (start c .args .orders .now) (start c .args .charges)
+    (start c .args .costs .now)
 
 -- the hour after hour k, as it was made
 abbrev moved : tie.After-end-of → tie.After-next
@@ -57,7 +58,8 @@ module _ (c : tie.After-end-of) where
       ≡ pickOf (choiceAt (machine (start c .args .u) (day c)) (start c .args .k .0) (start c .args .s))
   told =
       let a = start c .args in
-      ap (λ (t : Terms). pickOf (chosen (a .u) (tariffOf t (a .costs .now)) (worth (a .u) (day c) (suc (a .k .0))) (a .s)))
+      ap (λ (t : Terms). pickOf (chosen (a .u) (tariffOf t (a .costs .now)) (worth (a .u) (day c) (suc (a .k .0)))
+      (a .s)))
       (c .before .terms-at .ensures)
       ∙ ap pickOf (sym (choice-chosen (a .u) (day c) (a .k .0) (a .s)))
 

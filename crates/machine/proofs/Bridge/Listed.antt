@@ -50,7 +50,8 @@ module _ (c : Case) (lim : Limits c) (rates : Rates) (costs : List ℤ) where
       let after = runs-profit l (suc k) t (omega arith) (good-step c lim q s t g a) r in
       let out = step-output c lim q s t g a in
       let same = subst (λ p. Earned (suc k) (length l) t l ≡ some (profitFrom c rates costs (suc k) p l)) out after in
-      rw (obeys-of-ordered c lim rates costs k q (omega arith) o, step-move c lim q s t g a) (ap (add (gainAt k s q)) same)
+      rw (obeys-of-ordered c lim rates costs k q (omega arith) o, step-move c lim q s t g a)
+      (ap (add (gainAt k s q)) same)
 
   -- and what earns anything runs
   abbrev Ran : ℕ → ℕ → St → List ℕ → Type 0
@@ -65,7 +66,8 @@ module _ (c : Case) (lim : Limits c) (rates : Rates) (costs : List ℤ) where
       go (nextAt k s q) refl e (λ t w. runs-of-earned l n (suc k) t w (omega arith))
     where
       go : (x : Option State) → nextAt k s q ≡ x
-          → maybe none (λ x. add (gainAt k s q) (outcome (machine (unitOf c) (termsOf c rates costs)) (suc k) n x l)) x ≡ some v
+          → maybe none (λ x. add (gainAt k s q) (outcome (machine (unitOf c) (termsOf c rates costs)) (suc k) n x l))
+          x ≡ some v
           → ((t : St) (w : ℤ) → Good c t → Earned (suc k) n t l ≡ some w → Ran n (suc k) t l) → Ran (suc n) k s (q ∷ l)
       go none d f ih = absurd (some-none (sym f))
       go (some x) d f ih = back (move-step c lim q s x g (passed .1))
@@ -75,7 +77,9 @@ module _ (c : Case) (lim : Limits c) (rates : Rates) (costs : List ℤ) where
 
           back : Lands c q s x → Ran (suc n) k s (q ∷ l)
           back (lands t a i) =
-              let (w, left) = unadd (gainAt k s q) (outcome (machine (unitOf c) (termsOf c rates costs)) (suc k) n x l) v f in
-              let same = subst (λ y. outcome (machine (unitOf c) (termsOf c rates costs)) (suc k) n y l ≡ some w) (sym i) left in
+              let (w, left) = unadd (gainAt k s q) (outcome (machine (unitOf c) (termsOf c rates costs)) (suc k) n x
+              l) v f in
+              let same = subst (λ y. outcome (machine (unitOf c) (termsOf c rates costs)) (suc k) n y l ≡ some w)
+              (sym i) left in
               let (r, e) = ih t w (good-step c lim q s t g a) same in
               ((t, a, ordered-of-obeys c lim rates costs k q (omega arith) (passed .0), r), ap suc e)

@@ -1,11 +1,10 @@
 -- `curves::day::earned` meets its contract. The invariant: the total is what the hours to k earn, and `was` is p(k).
 -- Assumes nothing.
-use borrow.Author.Needs.{needs}
 use native.Mathlib.Omega.{arith}
 use native.Mathlib.Numerals.{add-one}
 use mathlib.Core.Path.{_≡_, sym, ap, _∙_}
 use Prim.Native.Nat.{ℕ, suc, _+_, _-_, _*_, _≤_}
-use lib.IntN.{ℤ, pos, natAbs, _+ℤ_}
+use lib.IntN.{ℤ, natAbs, _+ℤ_}
 use lib.ListN.{length}
 use Rattle.model.specs.Marks.{p}
 use Rattle.model.specs.Profit.{profitByTo}
@@ -123,7 +122,8 @@ loop-again c =
     let next = p-suc (a .case) (a .list .now) (l .k) in (
       omega (arith, t .if1 .taken),
       rw (add-one (l .k)) (sym next),
-      rw (add-one (l .k), c .sum .ensures) (earned-more (l .total .0) (g .earned .result .0) (l .k) (l .inv .2) (gain g)),
+      rw (add-one (l .k), c .sum .ensures) (earned-more (l .total .0) (g .earned .result .0) (l .k) (l .inv .2)
+          (gain g)),
       λ cost pays. c .sum .ensures ∙ ap (λ (z : ℤ). z +ℤ g .earned .result .0) (l .inv .3 cost pays)
           ∙ ap (λ (z : ℤ). profitByTo cost (a .case) (a .list .now) (l .k) +ℤ z) (g .earned .ensures)
           ∙ earned-step (a .case) (s .pre .0 .0) pays (l .k) (t .if1 .taken) (x .terms-at .ensures) (a .list .now)

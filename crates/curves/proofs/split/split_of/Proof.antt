@@ -2,21 +2,15 @@
 -- say what they say. Assumes nothing.
 use borrow.Author.Needs.{needs}
 use native.Mathlib.Omega.{arith}
-use mathlib.Core.Path.{_≡_, refl, sym, ap, _∙_, subst}
-use mathlib.Core.List.{List}
-use Prim.Native.Nat.{ℕ, _≤_}
-use lib.IntN.{ℤ, natAbs}
-use lib.ListN.{length, take}
+use mathlib.Core.Path.{sym, _∙_}
+use Prim.Native.Nat.{_≤_}
+use lib.IntN.{natAbs}
 use mir.Syntax.{w32, w64}
 use mir.Val.{SFits}
 use mir.Facts.{toZ-ofZ}
 use Rattle.laws.proofs.Signed.{linear, parts-pos}
 use Rattle.laws.proofs.Magnitude.{abs-bound, fits-of-abs}
-use Rattle.curve.specs.Cost.{costsLength}
 use Rattle.model.specs.Limits.{mostVariable}
-use Rattle.machine.specs.declared.Rates.{Rates}
-use Rattle.machine.specs.Moves.{costAt}
-use Rattle.machine.specs.Cases.{Pays}
 use Rattle.curves.proofs.SplitLaws.{even-pays, whole-shown, fits-32}
 use Rattle.curves.proofs.split.split_of.Statement.{statement}
 use Rattle.curves.proofs.split.split_of.Tie as tie
