@@ -201,7 +201,7 @@ extern "C" {
 #define GIQAPSUN_STACK_CALENDAR 65536
 #define GIQAPSUN_STACK_WORK 2048
 #define GIQAPSUN_STACK_TABLE 2048
-#define GIQAPSUN_STACK_CHECK_BY_CURVE 12288
+#define GIQAPSUN_STACK_CHECK_BY_CURVE 8192
 #define GIQAPSUN_STACK_BEST_BY_CURVE 65536
 
 /* Bytes of the longest file: pairs, unit, two trajectories, hours, form number. */

@@ -150,9 +150,11 @@ pub fn by_curve() -> Vec<(&'static str, Case)> {
         ("(c) 400 outputs, ramps 400, 48 h", wide(400, 48)),
         ("(m) 400 outputs, ramps 100, 48 h", wide(100, 48)),
         ("(d) 400 outputs, ramps 20, 48 h", wide(20, 48)),
+        ("(w) 400 outputs, the most row steps, 48 h", stops(48, 8, 6, 9, 2)),
         ("(u) ramps 400, minimum times 8, 168 h", week(400, 8)),
         ("(r) ramps 100, minimum times 8, 168 h", week(100, 8)),
         ("(v) ramps 20, minimum times 8, 168 h", week(20, 8)),
+        ("(x) the most row steps, 168 h", stops(168, 24, 20, 27, 6)),
     ]
 }
 
