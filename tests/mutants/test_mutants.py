@@ -134,7 +134,7 @@ class Verdict(unittest.TestCase):
 
     def test_refused_for_their_own_sake(self):
         scratch = mutants.Scratch.__new__(mutants.Scratch)
-        scratch.model = pathlib.Path("/s/crates/model")
+        scratch.home = pathlib.Path("/s/crates/model")
         said = (
             "note: nothing\n"
             "/s/crates/model/proofs/Days.antt:1:2: error: `known-days`: expected type `A`\n"
