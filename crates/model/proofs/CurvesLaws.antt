@@ -24,14 +24,23 @@ use Rattle.model.specs.Symbols.{last}
 use Rattle.model.specs.Rules.{breach, keeps}
 use Rattle.model.specs.Best.{Best, bestBy}
 use Rattle.model.specs.Refusals.{refusal9, workLength, refusal10, firstOf, refusalOf}
-use Rattle.model.specs.Answers.{judged, planned, verdictNumbers, planNumbers}
+use Rattle.model.specs.Answers.{judged, Scheduling, planned, verdictNumbers, planNumbers}
 use Rattle.model.specs.Curves.{Filling, refusal16, earnedBy, notChecked, checkedBy, checkByCurveOf, notSearched}
 use Rattle.model.specs.Curves.{scheduledBy, scheduleByCurveOf}
-use Rattle.model.specs.Promises.{FindsList, FindsNone, Fills}
+use Rattle.model.specs.Promises.{FindsList, FindsNone, FindsRefused, ChecksRefused, Stays, Fills}
 use Rattle.model.proofs.KeepsLaws.{kept-length, kept-none, kept-of-none, breach-rule}
 use Rattle.model.proofs.RefusalsLaws.{firstOf-tests, tests-within}
 use Rattle.model.proofs.BestLaws.{bestBy-some, bestBy-none, none-of-bestBy}
-use Rattle.model.proofs.AnswersLaws.{planned-list, planned-none, none-of-planned}
+use Rattle.model.proofs.AnswersLaws.{refused-finds, planned-list, planned-none, none-of-planned}
+
+-- a refusal, by the papers' words
+pub check-stays : (k : Kind) (n : ℕ) (table : List ℤ) {f : Filling Verdict} → f ≡ notChecked k n table
+    → Stays table (ChecksRefused n) f
+check-stays k n table e = rw e (record { says = refl; untouched = refl })
+
+pub search-stays : (k : Kind) (c : Case) (n : ℕ) (table work : List ℤ) (outputs : List ℕ) {f : Filling Scheduling}
+    → f ≡ notSearched k n table work outputs → Stays table (FindsRefused n work outputs) f
+search-stays k c n table work outputs e = rw e (record { says = refused-finds c work outputs n; untouched = refl })
 
 module _ (k : Kind) where
   -- 16 comes before all
