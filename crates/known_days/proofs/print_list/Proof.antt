@@ -1,10 +1,10 @@
--- `days::print_list` is safe and ends: k is at most the length. Assumes nothing.
+-- `known_days::print_list` is safe and ends: k is at most the length. Assumes nothing.
 use borrow.Author.Needs.{needs}
 use Prim.Native.Nat.{_≤_, _-_}
 use native.Mathlib.Omega.{arith}
 use lib.ListN.{length}
-use Rattle.days.proofs.print_list.Statement.{statement}
-use Rattle.days.proofs.print_list.Tie as tie
+use Rattle.known_days.proofs.print_list.Statement.{statement}
+use Rattle.known_days.proofs.print_list.Tie as tie
 
 abbrev Inv-loop : tie.InvT-loop
 Inv-loop outputs n k₀ k = k ≤ length outputs

@@ -1,10 +1,10 @@
--- `long_days::repeated` is safe and ends: k is from a day to a week. Assumes nothing.
+-- `known_days::repeated` is safe and ends: k is from a day to a week. Assumes nothing.
 use borrow.Author.Needs.{needs}
 use Prim.Native.Nat.{_≤_, _-_}
 use native.Mathlib.Omega.{arith}
 use Rattle.model.specs.Limits.{mostHours}
-use Rattle.long_days.proofs.repeated.Statement.{statement}
-use Rattle.long_days.proofs.repeated.Tie as tie
+use Rattle.known_days.proofs.repeated.Statement.{statement}
+use Rattle.known_days.proofs.repeated.Tie as tie
 
 abbrev Inv-loop : tie.InvT-loop
 Inv-loop all₀ k₀ all k = (24 ≤ k) × (k ≤ mostHours)
