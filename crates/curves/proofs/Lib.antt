@@ -2,3 +2,4 @@
 pub mod SplitLaws
 pub mod DayLaws
 pub mod FilledLaws
+pub mod EnteredLaws

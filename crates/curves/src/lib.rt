@@ -22,6 +22,25 @@ ghost use Rattle.model.specs.Best.{bestBy};
 ghost use Rattle.model.specs.Refusals.{workLength, refusalOf};
 ghost use Rattle.model.specs.Answers.{judged, planned};
 ghost use Rattle.model.specs.Curves.{earnedBy, checkByCurveOf, scheduleByCurveOf};
+ghost use Rattle.curves.specs.Entered.{enteredOf};
+
+// Accepted, or the first refusal: 16 of a curve before any case, then that of the reading, then that of its record.
+fn entered(curve: Curve, reading: Reading) -> Outcome
+    ensures { λ r. ⌜ r ≡ enteredOf curve (reading .outcome) (reading .case) ⌝ }
+{
+    if !costs::accepts(curve) {
+        return Outcome::Refused(16);
+    }
+    let outcome = reading.outcome;
+    let Outcome::Accepted = outcome else {
+        return outcome;
+    };
+    let refusal = limits::refusal_of(reading.case);
+    if refusal != 0 {
+        return Outcome::Refused(refusal);
+    }
+    Outcome::Accepted
+}
 
 // The verdict of a list by a filled table, for a record within the limits.
 fn judge(case: Case, costs: &[i64], list: &[u16]) -> Verdict
@@ -66,18 +85,11 @@ pub fn check_by_curve(reading: Reading, kind: Kind, list: &[u16], table: &mut [i
         (now (list .entry)) (now (table .entry))) .table ⌝ }
 {
     let curve = costs::record_of(kind);
-    if !costs::accepts(curve) {
-        return Verdict::Refused(16);
-    }
-    let outcome = reading.outcome;
+    let outcome = entered(curve, reading);
     let Outcome::Accepted = outcome else {
         return Verdict::Refused(outcome.number());
     };
     let case = reading.case;
-    let refusal = limits::refusal_of(case);
-    if refusal != 0 {
-        return Verdict::Refused(refusal);
-    }
     if list.len() != case.hours {
         return Verdict::Refused(9);
     }
@@ -107,18 +119,11 @@ pub fn schedule_by_curve(
         (now (table .entry)) (now (work .entry)) (now (outputs .entry))) .answer .outputs ⌝ }
 {
     let curve = costs::record_of(kind);
-    if !costs::accepts(curve) {
-        return Plan::Refused(16);
-    }
-    let outcome = reading.outcome;
+    let outcome = entered(curve, reading);
     let Outcome::Accepted = outcome else {
         return Plan::Refused(outcome.number());
     };
     let case = reading.case;
-    let refusal = limits::refusal_of(case);
-    if refusal != 0 {
-        return Plan::Refused(refusal);
-    }
     let n = limits::work_of(case);
     if table.len() < COSTS {
         return Plan::Refused(10);
