@@ -112,6 +112,10 @@ module _ (k : Kind) where
       abbrev short : Bool
       short = ltb (length table) costsLength || refusal10 c (length work) (length outputs)
 
+      abbrev plan : Filling Scheduling
+      plan =
+          record { answer = planned c (earnedBy k c) work outputs (bestBy (earnedBy k c) c); table = tabled k table }
+
       pub scheduleByCurveOf-refused : (n : ℕ)
           → scheduleByCurveOf k (Refused n) c table work outputs ≡ notSearched k n table work outputs
       unfolding scheduleByCurveOf
@@ -156,11 +160,7 @@ module _ (k : Kind) where
                 (right→or work-short outputs-short (lt→ltb (length outputs) (last c) h))
 
         pub scheduleByCurveOf-planned : costsLength ≤ length table → workLength c ≤ length work
-            → last c ≤ length outputs → scheduleByCurveOf k Accepted c table work outputs
-            ≡ record {
-              answer = planned c (earnedBy k c) work outputs (bestBy (earnedBy k c) c);
-              table = tabled k table;
-            }
+            → last c ≤ length outputs → scheduleByCurveOf k Accepted c table work outputs ≡ plan
         unfolding scheduleByCurveOf scheduledBy firstOf refusal10
         scheduleByCurveOf-planned a b d =
             rw (
@@ -174,11 +174,7 @@ module _ (k : Kind) where
       -- ---- by the papers' words
       module _ (e : refusalOf c ≡ 0) (room : costsLength ≤ length table) (long : workLength c ≤ length work)
           (outs : last c ≤ length outputs) where
-        searched : scheduleByCurveOf k Accepted c table work outputs
-            ≡ record {
-              answer = planned c (earnedBy k c) work outputs (bestBy (earnedBy k c) c);
-              table = tabled k table;
-            }
+        searched : scheduleByCurveOf k Accepted c table work outputs ≡ plan
         searched = scheduleByCurveOf-planned e room long outs
 
         pub curve-finds : (l : List ℕ) → Best (keeps c) (earnedBy k c) l

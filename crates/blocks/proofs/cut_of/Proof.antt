@@ -18,7 +18,7 @@ ready : (c : tie.Else1) → let a = entry c .args in
 ready c = ready-less (entry c .pre .1) _ _ (omega arith) (omega (arith, c .before .least .ensures))
 
 returns : tie.Need-returns
-returns c = let a = c .before .before .before .args in enough-whole
+returns c = enough-whole
 
 highest-requires : tie.Need-highest-requires
 highest-requires c κs =
