@@ -123,7 +123,7 @@ module _ (f g : ℕ → ℤ) (c : Case) (l : List ℕ) (none : f 0 ≡ g 0)
       rw (profitByAt-is f c l (suc n), profitByAt-is g c l (suc n), same (suc n) h, none) refl in
       rw (profitByTo-more f c l n, profitByTo-more g c l n, profitByTo-same n (omega arith), hour) refl
 
-  profitBy-same : profitBy f c l ≡ profitBy g c l
+  pub profitBy-same : profitBy f c l ≡ profitBy g c l
   profitBy-same = profitBy-is f c l ∙ profitByTo-same (last c) (omega arith) ∙ sym (profitBy-is g c l)
 
 -- the energy of an hour of a list that keeps the rules

@@ -9,10 +9,11 @@ use native.Mathlib.Decide.{ℕ-discrete}
 use native.Mathlib.Omega.{arith}
 use borrow.Author.Tests.{eq-eqb, ne-eqb, lt-ltb, le-ltb}
 use lib.Dec.{T, ltb, lt→ltb}
-use lib.IntN.{ℤ}
-use lib.ListN.{length}
+use lib.IntN.{ℤ, pos}
+use lib.ListN.{length, getD}
 use Rattle.curve.specs.declared.Kind.{Kind}
-use Rattle.curve.specs.Cost.{costsLength, recordOf, accepted, tabled}
+use Rattle.curve.specs.Cost.{costsLength, recordOf, accepted, entryOf, tableOf, tabled}
+use Rattle.curve.proofs.TableLaws.{table-at}
 use Rattle.laws.proofs.Tests.{T→true, not→false, left→or, right→or}
 use Rattle.model.specs.declared.Case.{Case}
 use Rattle.model.specs.declared.Breach.{Breach}
@@ -22,16 +23,28 @@ use Rattle.model.specs.declared.Verdict.{Verdict}
 use Rattle.model.specs.declared.Verdict.the-variants.{Passes, Breaks as Breaching}
 use Rattle.model.specs.Symbols.{last}
 use Rattle.model.specs.Rules.{breach, keeps}
+use Rattle.model.specs.Profit.{energy}
 use Rattle.model.specs.Best.{Best, bestBy}
 use Rattle.model.specs.Refusals.{refusal9, workLength, refusal10, firstOf, refusalOf}
 use Rattle.model.specs.Answers.{judged, Scheduling, planned, verdictNumbers, planNumbers}
 use Rattle.model.specs.Curves.{Filling, refusal16, earnedBy, notChecked, checkedBy, checkByCurveOf, notSearched}
 use Rattle.model.specs.Curves.{scheduledBy, scheduleByCurveOf}
+use Rattle.model.specs.Words.{markingOf, earnedAt}
 use Rattle.model.specs.Promises.{FindsList, FindsNone, FindsRefused, ChecksRefused, Stays, Fills}
+use Rattle.model.proofs.CostLaws.{profit-by, profitBy-same, energy-le}
 use Rattle.model.proofs.KeepsLaws.{kept-length, kept-none, kept-of-none, breach-rule}
 use Rattle.model.proofs.RefusalsLaws.{firstOf-tests, tests-within}
 use Rattle.model.proofs.BestLaws.{bestBy-some, bestBy-none, none-of-bestBy}
 use Rattle.model.proofs.AnswersLaws.{refused-finds, planned-list, planned-none, none-of-planned}
+
+-- what a list earns that keeps the rules: no hour of it has an energy past the table
+pub curve-earns : (k : Kind) (c : Case) (l : List ℕ) → refusalOf c ≡ 0 → T (keeps c l)
+    → earnedBy k c l ≡ earnedAt (λ n. pos (entryOf k n)) c (markingOf c l)
+unfolding earnedBy
+curve-earns k c l e t =
+    profitBy-same (λ n. getD (tableOf k) n (pos 0)) (λ n. pos (entryOf k n)) c l (table-at k 0 (omega arith))
+    (λ m h. table-at k (energy c l m) (energy-le c e l t m h))
+    ∙ profit-by (λ n. pos (entryOf k n)) c l
 
 -- a refusal, by the papers' words
 pub check-stays : (k : Kind) (n : ℕ) (table : List ℤ) {f : Filling Verdict} → f ≡ notChecked k n table
