@@ -109,23 +109,6 @@ fn print_best(name: &[u8], reading: Reading) {
     print_lent(name, reading, &mut work);
 }
 
-// The best list on a day of the year, by its on-line and off-line windows.
-fn print_day(name: &[u8], reading: Reading, on: &[u16], off: &[u16], first: Hour, hours: Hour) {
-    let mut work = [0i64; SHORT_WORK];
-    let mut outputs = [0u16; HOURS];
-    let case = reading.case;
-    let plan = calendar::schedule_by_calendar(
-        reading,
-        on,
-        off,
-        first,
-        hours,
-        &mut work,
-        &mut outputs,
-    );
-    print_plan(name, plan, case, &outputs);
-}
-
 // The verdict of a list.
 fn print_check(name: &[u8], reading: Reading, list: &[u16]) {
     io::write_all(STDOUT_FILENO, name);
@@ -141,31 +124,6 @@ fn print_check(name: &[u8], reading: Reading, list: &[u16]) {
             print_number(b" refused ", number as u64);
         }
     }
-    io::write_all(STDOUT_FILENO, b"\n");
-}
-
-// Which of two lists to offer, and the part that is handed back.
-fn print_better<'a>(name: &[u8], reading: Reading, first: &'a [u16], second: &'a [u16]) {
-    io::write_all(STDOUT_FILENO, name);
-    match offers::compare(reading, first, second) {
-        Comparison::First(profit) => {
-            io::write_all(STDOUT_FILENO, b": first,");
-            print_profit(profit);
-        }
-        Comparison::Second(profit) => {
-            io::write_all(STDOUT_FILENO, b": second,");
-            print_profit(profit);
-        }
-        Comparison::Neither => {
-            io::write_all(STDOUT_FILENO, b": neither");
-        }
-        Comparison::Refused(number) => {
-            print_number(b": refused ", number as u64);
-        }
-    }
-    let part = offers::better(reading, first, second);
-    io::write_all(STDOUT_FILENO, b" list");
-    print_list(part, part.len());
     io::write_all(STDOUT_FILENO, b"\n");
 }
 
@@ -221,125 +179,51 @@ fn small(
     priced(initial, elapsed, mindown, hours, [price; HOURS], orders)
 }
 
-// The known days 1 to 7, which have no orders.
-fn print_free() {
-    let free = [0u8; HOURS];
-    print_best(
-        b"1",
-        small(Output(0), Hour(2), Hour(1), Hour(1), Mills(10), free),
+// The best list on a day of the year, by its on-line and off-line windows.
+fn print_day(name: &[u8], reading: Reading, on: &[u16], off: &[u16], first: Hour, hours: Hour) {
+    let mut work = [0i64; SHORT_WORK];
+    let mut outputs = [0u16; HOURS];
+    let case = reading.case;
+    let plan = calendar::schedule_by_calendar(
+        reading,
+        on,
+        off,
+        first,
+        hours,
+        &mut work,
+        &mut outputs,
     );
-    print_best(
-        b"2",
-        small(Output(0), Hour(2), Hour(1), Hour(1), Mills(18), free),
-    );
-    print_best(
-        b"3",
-        small(Output(0), Hour(2), Hour(1), Hour(1), Mills(19), free),
-    );
-    print_best(
-        b"4",
-        small(Output(2), Hour(2), Hour(1), Hour(1), Mills(10), free),
-    );
-    print_best(
-        b"5",
-        small(Output(2), Hour(2), Hour(1), Hour(2), Mills(5), free),
-    );
-    print_best(
-        b"6",
-        small(Output(3), Hour(2), Hour(1), Hour(2), Mills(5), free),
-    );
-    print_best(
-        b"7",
-        small(Output(3), Hour(2), Hour(1), Hour(3), Mills(5), free),
-    );
+    print_plan(name, plan, case, &outputs);
 }
 
-// The known days 8 to 12: those with orders, and the lists that are checked.
-fn print_ordered() {
-    let free = [0u8; HOURS];
-    let mut orders = free;
-    orders[1] = 1;
-    orders[3] = 2;
-    print_best(
-        b"8",
-        small(Output(0), Hour(2), Hour(1), Hour(4), Mills(10), orders),
-    );
-    print_check(
-        b"9",
-        small(Output(0), Hour(2), Hour(1), Hour(1), Mills(10), free),
-        &[2u16],
-    );
-    print_check(
-        b"10",
-        small(Output(2), Hour(2), Hour(1), Hour(1), Mills(10), free),
-        &[4u16],
-    );
-    print_best(
-        b"11",
-        small(
-            Output(0),
-            Hour(1),
-            Hour(2),
-            Hour(1),
-            Mills(10),
-            [1u8; HOURS],
-        ),
-    );
-    orders[0] = 2;
-    print_best(
-        b"12",
-        small(Output(0), Hour(2), Hour(1), Hour(4), Mills(10), orders),
-    );
+// Which of two lists to offer, and the part that is handed back.
+fn print_better<'a>(name: &[u8], reading: Reading, first: &'a [u16], second: &'a [u16]) {
+    io::write_all(STDOUT_FILENO, name);
+    match offers::compare(reading, first, second) {
+        Comparison::First(profit) => {
+            io::write_all(STDOUT_FILENO, b": first,");
+            print_profit(profit);
+        }
+        Comparison::Second(profit) => {
+            io::write_all(STDOUT_FILENO, b": second,");
+            print_profit(profit);
+        }
+        Comparison::Neither => {
+            io::write_all(STDOUT_FILENO, b": neither");
+        }
+        Comparison::Refused(number) => {
+            print_number(b": refused ", number as u64);
+        }
+    }
+    let part = offers::better(reading, first, second);
+    io::write_all(STDOUT_FILENO, b" list");
+    print_list(part, part.len());
+    io::write_all(STDOUT_FILENO, b"\n");
 }
 
-// An hour of the unit at 2 MW, at a price of F and above it.
-fn level() -> Reading {
-    small(
-        Output(2),
-        Hour(2),
-        Hour(1),
-        Hour(1),
-        Mills(10),
-        [0u8; HOURS],
-    )
-}
-
-fn dear() -> Reading {
-    small(
-        Output(2),
-        Hour(2),
-        Hour(1),
-        Hour(1),
-        Mills(12),
-        [0u8; HOURS],
-    )
-}
-
-// One list passes; both do, and the higher profit, or the lower output, wins; identical lists; neither passes.
-fn print_pairs() {
-    print_better(b"one passes", level(), &[2u16], &[4u16]);
-    print_better(b"the other passes", dear(), &[4u16], &[3u16]);
-    print_better(b"3 earns more", dear(), &[3u16], &[2u16]);
-    print_better(b"3 earns more", dear(), &[2u16], &[3u16]);
-    print_better(b"equal profit", level(), &[2u16], &[3u16]);
-    print_better(b"equal profit", level(), &[3u16], &[2u16]);
-    print_better(b"identical", level(), &[2u16], &[2u16]);
-    print_better(b"neither passes", level(), &[4u16], &[0u16]);
-}
-
-// A first and a second list of another length; and a case that is refused, which comes before 9.
-fn print_refused_pairs() {
-    let case = small(
-        Output(1),
-        Hour(2),
-        Hour(1),
-        Hour(1),
-        Mills(10),
-        [0u8; HOURS],
-    );
-    print_better(b"first of 2 outputs", level(), &[2u16, 2], &[2u16]);
-    print_better(b"second of 2 outputs", level(), &[2u16], &[2u16, 2]);
-    print_better(b"refused case", case, &[2u16, 2], &[2u16]);
+// A day after two hours in the same state, without orders: p(0), T, the price.
+fn plain(initial: Output, hours: Hour, price: Mills) -> Reading {
+    small(initial, Hour(2), Hour(1), hours, price, [0u8; HOURS])
 }
 
 // An hour of the unit off-line, and of the unit at 2 MW.
@@ -348,7 +232,65 @@ fn idle(price: Mills, order: u8) -> Reading {
 }
 
 fn running(price: Mills) -> Reading {
-    small(Output(2), Hour(2), Hour(1), Hour(1), price, [0u8; HOURS])
+    plain(Output(2), Hour(1), price)
+}
+
+// The known days 1 to 7, which have no orders.
+fn print_free() {
+    print_best(b"1", idle(Mills(10), 0));
+    print_best(b"2", idle(Mills(18), 0));
+    print_best(b"3", idle(Mills(19), 0));
+    print_best(b"4", running(Mills(10)));
+    print_best(b"5", plain(Output(2), Hour(2), Mills(5)));
+    print_best(b"6", plain(Output(3), Hour(2), Mills(5)));
+    print_best(b"7", plain(Output(3), Hour(3), Mills(5)));
+}
+
+// The known days 8 to 12: those with orders, and the lists that are checked.
+fn print_ordered() {
+    let off = Output(0);
+    let one = Hour(1);
+    let two = Hour(2);
+    let four = Hour(4);
+    let ten = Mills(10);
+    let mut orders = [0u8; HOURS];
+    orders[1] = 1;
+    orders[3] = 2;
+    print_best(b"8", small(off, two, one, four, ten, orders));
+    print_check(b"9", idle(ten, 0), &[2u16]);
+    print_check(b"10", running(ten), &[4u16]);
+    print_best(b"11", small(off, one, two, one, ten, [1u8; HOURS]));
+    orders[0] = 2;
+    print_best(b"12", small(off, two, one, four, ten, orders));
+}
+
+// At a price of F and above it: one list passes; both do, and the higher profit, or the lower output, wins; identical
+// lists; neither passes.
+fn print_pairs() {
+    let level = running(Mills(10));
+    let dear = running(Mills(12));
+    let two: &[u16] = &[2u16];
+    let three: &[u16] = &[3u16];
+    let four: &[u16] = &[4u16];
+    print_better(b"one passes", level, two, four);
+    print_better(b"the other passes", dear, four, three);
+    print_better(b"3 earns more", dear, three, two);
+    print_better(b"3 earns more", dear, two, three);
+    print_better(b"equal profit", level, two, three);
+    print_better(b"equal profit", level, three, two);
+    print_better(b"identical", level, two, two);
+    print_better(b"neither passes", level, four, &[0u16]);
+}
+
+// A first and a second list of another length; and a case that is refused, which comes before 9.
+fn print_refused_pairs() {
+    let level = running(Mills(10));
+    let refused = plain(Output(1), Hour(1), Mills(10));
+    let one: &[u16] = &[2u16];
+    let both: &[u16] = &[2u16, 2];
+    print_better(b"first of 2 outputs", level, both, one);
+    print_better(b"second of 2 outputs", level, one, both);
+    print_better(b"refused case", refused, both, one);
 }
 
 // Below zero: staying off-line earns 0, and an order on-line is kept at a loss; above 65.535 dollars.
@@ -367,14 +309,17 @@ fn print_limits() {
     print_best(b"past the least", running(Mills(-MOST_PRICE - 1)));
     let mut prices = [Mills(10); HOURS];
     prices[1] = Mills(MOST_PRICE + 1);
+    let off = Output(0);
+    let one = Hour(1);
+    let two = Hour(2);
     let free = [0u8; HOURS];
     print_best(
         b"past the last hour",
-        priced(Output(0), Hour(2), Hour(1), Hour(1), prices, free),
+        priced(off, two, one, one, prices, free),
     );
     print_best(
         b"in the last hour",
-        priced(Output(0), Hour(2), Hour(1), Hour(2), prices, free),
+        priced(off, two, one, two, prices, free),
     );
 }
 
@@ -390,16 +335,9 @@ fn quiet(hours: Hour, order: u8) -> Reading {
     )
 }
 
-// That day of 24 hours from hour 100 of the year on, with on-line windows, or with off-line windows, alone.
-fn print_on(name: &[u8], on: &[u16]) {
-    print_day(
-        name,
-        quiet(Hour(24), 0),
-        on,
-        &[0u16; 0],
-        Hour(100),
-        Hour(24),
-    );
+// From hour 100 of the year on, 24 hours with on-line windows, or with off-line windows, alone.
+fn print_on(name: &[u8], reading: Reading, on: &[u16]) {
+    print_day(name, reading, on, &[0u16; 0], Hour(100), Hour(24));
 }
 
 fn print_off(name: &[u8], reading: Reading, off: &[u16]) {
@@ -413,56 +351,35 @@ fn print_open(name: &[u8], reading: Reading, first: Hour, hours: Hour) {
 
 // Days of 23 and 25 hours; a window holds its first hour and not the hour after its last; windows that touch.
 fn print_windows() {
-    print_open(
-        b"23 hours, no window",
-        quiet(Hour(23), 0),
-        Hour(100),
-        Hour(23),
-    );
+    let first = Hour(100);
+    let short = Hour(23);
+    let long = Hour(25);
+    let day = quiet(Hour(24), 0);
+    print_open(b"23 hours, no window", quiet(short, 0), first, short);
     print_day(
         b"25 hours on-line",
-        quiet(Hour(25), 0),
+        quiet(long, 0),
         &[100u16, 25],
         &[0u16; 0],
-        Hour(100),
-        Hour(25),
+        first,
+        long,
     );
-    print_on(b"hour 2 on-line", &[101u16, 1]);
-    print_on(b"ends at hour 1", &[90u16, 10]);
-    print_on(b"begins after hour 24", &[124u16, 10]);
-    print_on(b"touching", &[100u16, 2, 102, 2]);
+    print_on(b"hour 2 on-line", day, &[101u16, 1]);
+    print_on(b"ends at hour 1", day, &[90u16, 10]);
+    print_on(b"begins after hour 24", day, &[124u16, 10]);
+    print_on(b"touching", day, &[100u16, 2, 102, 2]);
 }
 
 // The windows replace the case's own orders, which 8 still tests; a start that the unit cannot make is 11.
 fn print_replaced() {
-    let late = small(
-        Output(0),
-        Hour(1),
-        Hour(2),
-        Hour(24),
-        Mills(10),
-        [0u8; HOURS],
-    );
-    print_off(
-        b"own on-line, off-line by a window",
-        quiet(Hour(24), 1),
-        &[100u16, 24],
-    );
-    print_open(
-        b"own on-line, no window",
-        quiet(Hour(24), 1),
-        Hour(100),
-        Hour(24),
-    );
-    print_off(b"own order 3", quiet(Hour(24), 3), &[100u16, 24]);
-    print_day(
-        b"too early",
-        late,
-        &[100u16, 1],
-        &[0u16; 0],
-        Hour(100),
-        Hour(24),
-    );
+    let day = Hour(24);
+    let own = quiet(day, 1);
+    let late = small(Output(0), Hour(1), Hour(2), day, Mills(10), [0u8; HOURS]);
+    let whole: &[u16] = &[100u16, 24];
+    print_off(b"own on-line, off-line by a window", own, whole);
+    print_open(b"own on-line, no window", own, Hour(100), day);
+    print_off(b"own order 3", quiet(day, 3), whole);
+    print_on(b"too early", late, &[100u16, 1]);
 }
 
 // 15: both lists hold an hour of the day, and not only one of another day.
@@ -479,7 +396,10 @@ fn print_meeting(name: &[u8], first: Hour) {
 
 // 2: T is not the day's number of hours, also where the record would be refused by 3.
 fn print_other_day() {
-    let reading = quiet(Hour(24), 0);
+    let first = Hour(100);
+    let short = Hour(23);
+    let day = Hour(24);
+    let reading = quiet(day, 0);
     let mut case = reading.case;
     let minimum = Output(0);
     case.minimum = minimum;
@@ -487,57 +407,29 @@ fn print_other_day() {
         outcome: Outcome::Accepted,
         case,
     };
-    print_open(b"T 24 of 23 hours", reading, Hour(100), Hour(23));
-    print_open(b"T 24 of 23 hours, minimum 0", wrong, Hour(100), Hour(23));
-    print_open(b"T 24 of 24 hours, minimum 0", wrong, Hour(100), Hour(24));
+    print_open(b"T 24 of 23 hours", reading, first, short);
+    print_open(b"T 24 of 23 hours, minimum 0", wrong, first, short);
+    print_open(b"T 24 of 24 hours, minimum 0", wrong, first, day);
 }
 
 // 14: windows that are not whole, empty, unsorted, overlapping or past the year.
 fn print_misplaced() {
-    print_on(b"odd", &[100u16]);
-    print_on(b"unsorted", &[200u16, 5, 100, 5]);
-    print_on(b"past 8784", &[8783u16, 2]);
-    print_off(b"empty", quiet(Hour(24), 0), &[100u16, 0]);
-    print_off(b"overlapping", quiet(Hour(24), 0), &[100u16, 5, 104, 5]);
+    let day = quiet(Hour(24), 0);
+    print_on(b"odd", day, &[100u16]);
+    print_on(b"unsorted", day, &[200u16, 5, 100, 5]);
+    print_on(b"past 8784", day, &[8783u16, 2]);
+    print_off(b"empty", day, &[100u16, 0]);
+    print_off(b"overlapping", day, &[100u16, 5, 104, 5]);
 }
 
 // The last day of the year; 14 for a day past it and for one of another length.
 fn print_edges() {
-    print_open(b"day up to 8784", quiet(Hour(24), 0), Hour(8760), Hour(24));
-    print_open(b"day past 8784", quiet(Hour(24), 0), Hour(8761), Hour(24));
-    print_open(b"day of 22 hours", quiet(Hour(22), 0), Hour(100), Hour(22));
-}
-
-// The prices of days that are alike: those of the first again and again.
-fn repeated(prices: [Mills; HOURS]) -> [Mills; HOURS] {
-    let mut all = prices;
-    let mut k = DAY;
-    while k < HOURS {
-        let price = all[k - DAY];
-        all[k] = price;
-        k += 1;
-    }
-    all
-}
-
-// The source's case written, and read again in form 3; a form that has another unit, and one that there is not.
-fn print_forms(file: &[u8]) {
-    let reading = codec::read(file);
-    let case = reading.case;
-    let mut bytes = [0u8; SOURCE_NEW];
-    match codec::write(case, &mut bytes) {
-        Written::Bytes(n) => print_number(b"source, bytes of form 3: ", n as u64),
-        Written::Refused(number) => print_number(b"source, not written: ", number as u64),
-    }
-    io::write_all(STDOUT_FILENO, b"\n");
-    print_best(b"source, form 3", codec::read(&bytes));
-    bytes[SOURCE_NEW - FORM_BYTES] = 2;
-    print_best(
-        b"source, form 2 with a unit of 34 bytes",
-        codec::read(&bytes),
-    );
-    bytes[SOURCE_NEW - FORM_BYTES] = 4;
-    print_best(b"source, form 4", codec::read(&bytes));
+    let hours = Hour(24);
+    let day = quiet(hours, 0);
+    let short = Hour(22);
+    print_open(b"day up to 8784", day, Hour(8760), hours);
+    print_open(b"day past 8784", day, Hour(8761), hours);
+    print_open(b"day of 22 hours", quiet(short, 0), Hour(100), short);
 }
 
 // A unit with three outputs to a trajectory, of which 2 MW is one of both, on a day at one price: p(0), h, start-up
@@ -627,75 +519,56 @@ fn print_stages() {
 // comes before the minimum up time.
 fn print_closings() {
     let low = Output(4);
+    let second = Output(2);
+    let one = Hour(1);
+    let two = Hour(2);
+    let three = Hour(3);
+    let four = Hour(4);
     let five = Mills(5);
-    print_best(
-        b"closes at PD(2)",
-        staged(low, Hour(3), 0, 0, Hour(1), Hour(1), five),
-    );
-    print_best(
-        b"closes at PD(3)",
-        staged(low, Hour(3), 0, 0, Hour(1), Hour(2), five),
-    );
-    print_best(
-        b"closes at 0",
-        staged(low, Hour(3), 0, 0, Hour(1), Hour(3), five),
-    );
+    print_best(b"closes at PD(2)", staged(low, three, 0, 0, one, one, five));
+    print_best(b"closes at PD(3)", staged(low, three, 0, 0, one, two, five));
+    print_best(b"closes at 0", staged(low, three, 0, 0, one, three, five));
     print_best(
         b"opens and closes in a shut-down",
-        staged(Output(2), Hour(4), 0, 2, Hour(1), Hour(1), five),
+        staged(second, four, 0, 2, one, one, five),
     );
     print_best(
         b"opening stop too early",
-        staged(Output(2), Hour(4), 0, 2, Hour(6), Hour(2), five),
+        staged(second, four, 0, 2, Hour(6), two, five),
     );
     print_best(
         b"opening stop late enough",
-        staged(Output(2), Hour(4), 0, 2, Hour(5), Hour(2), five),
+        staged(second, four, 0, 2, Hour(5), two, five),
     );
 }
 
 // 2 MW is PU(2) in a start-up and PD(2) after it; rule 21 at the stop after T, which stands at hour 6.
 fn print_shared() {
     let off = Output(0);
+    let one = Hour(1);
+    let four = Hour(4);
     let ten = Mills(10);
+    let closed: &[u16] = &[1u16, 2, 4, 2];
     print_check(
         b"2 MW in a start-up",
-        staged(off, Hour(1), 0, 0, Hour(8), Hour(2), ten),
+        staged(off, one, 0, 0, Hour(8), Hour(2), ten),
         &[1u16, 2],
     );
     print_check(
         b"2 MW after a start-up",
-        staged(off, Hour(1), 0, 0, Hour(5), Hour(4), ten),
-        &[1u16, 2, 4, 2],
+        staged(off, one, 0, 0, Hour(5), four, ten),
+        closed,
     );
     print_check(
         b"stop after T too early",
-        staged(off, Hour(1), 0, 0, Hour(6), Hour(4), ten),
-        &[1u16, 2, 4, 2],
+        staged(off, one, 0, 0, Hour(6), four, ten),
+        closed,
     );
     print_check(
         b"2 MW from above",
-        staged(Output(5), Hour(9), 0, 0, Hour(1), Hour(1), ten),
+        staged(Output(5), Hour(9), 0, 0, one, one, ten),
         &[2u16],
     );
-}
-
-// The source's day, and the days of its Table V: the same prices for 48, 96 and 168 hours; and an hour more.
-fn print_source(file: &[u8]) {
-    let reading = codec::read(file);
-    let mut case = reading.case;
-    print_best(b"source", reading);
-    let prices = case.prices;
-    let all = repeated(prices);
-    case.prices = all;
-    case.hours = 2 * DAY;
-    print_best(b"source, 48 hours", codec::admit(case));
-    case.hours = 4 * DAY;
-    print_best(b"source, 96 hours", codec::admit(case));
-    case.hours = 7 * DAY;
-    print_best(b"source, 168 hours", codec::admit(case));
-    case.hours = 7 * DAY + 1;
-    print_best(b"source, 169 hours", codec::admit(case));
 }
 
 // The small unit after two hours on-line, with these minimum times and prices that pay for no hour: it stops as soon as
@@ -722,6 +595,36 @@ fn print_times() {
     print_long(b"minimum up time 20", held(Hour(20), Hour(1), Hour(21)));
     print_long(b"minimum times 24", held(Hour(24), Hour(24), Hour(26)));
     print_long(b"minimum up time 25", held(Hour(25), Hour(1), Hour(26)));
+}
+
+// The prices of days that are alike: those of the first again and again.
+fn repeated(prices: [Mills; HOURS]) -> [Mills; HOURS] {
+    let mut all = prices;
+    let mut k = DAY;
+    while k < HOURS {
+        let price = all[k - DAY];
+        all[k] = price;
+        k += 1;
+    }
+    all
+}
+
+// The source's day, and the days of its Table V: the same prices for 48, 96 and 168 hours; and an hour more.
+fn print_source(file: &[u8]) {
+    let reading = codec::read(file);
+    let mut case = reading.case;
+    print_best(b"source", reading);
+    let prices = case.prices;
+    let all = repeated(prices);
+    case.prices = all;
+    case.hours = 2 * DAY;
+    print_best(b"source, 48 hours", codec::admit(case));
+    case.hours = 4 * DAY;
+    print_best(b"source, 96 hours", codec::admit(case));
+    case.hours = 7 * DAY;
+    print_best(b"source, 168 hours", codec::admit(case));
+    case.hours = 7 * DAY + 1;
+    print_best(b"source, 169 hours", codec::admit(case));
 }
 
 // Lists of the source's day: the one that the source prints, and an output that is held.
@@ -752,10 +655,31 @@ fn print_lists(file: &[u8]) {
         194,
         144,
     ];
-    print_check(b"source, printed list", codec::read(file), &list);
-    print_check(b"source, 120 held", codec::read(file), &[120u16; DAY]);
-    print_check(b"source, 115 held", codec::read(file), &[115u16; DAY]);
-    print_check(b"source, 23 outputs", codec::read(file), &[120u16; DAY - 1]);
+    let reading = codec::read(file);
+    print_check(b"source, printed list", reading, &list);
+    print_check(b"source, 120 held", reading, &[120u16; DAY]);
+    print_check(b"source, 115 held", reading, &[115u16; DAY]);
+    print_check(b"source, 23 outputs", reading, &[120u16; DAY - 1]);
+}
+
+// The source's case written, and read again in form 3; a form that has another unit, and one that there is not.
+fn print_forms(file: &[u8]) {
+    let reading = codec::read(file);
+    let case = reading.case;
+    let mut bytes = [0u8; SOURCE_NEW];
+    match codec::write(case, &mut bytes) {
+        Written::Bytes(n) => print_number(b"source, bytes of form 3: ", n as u64),
+        Written::Refused(number) => print_number(b"source, not written: ", number as u64),
+    }
+    io::write_all(STDOUT_FILENO, b"\n");
+    print_best(b"source, form 3", codec::read(&bytes));
+    bytes[SOURCE_NEW - FORM_BYTES] = 2;
+    print_best(
+        b"source, form 2 with a unit of 34 bytes",
+        codec::read(&bytes),
+    );
+    bytes[SOURCE_NEW - FORM_BYTES] = 4;
+    print_best(b"source, form 4", codec::read(&bytes));
 }
 
 fn main() {
