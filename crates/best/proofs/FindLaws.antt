@@ -19,7 +19,7 @@ use Rattle.machine.specs.Coded.{missing, coded, Bounded, amount}
 use Rattle.machine.specs.Search.{maybe}
 use Rattle.machine.specs.Bounds.{mostWorth}
 use Rattle.machine.specs.declared.Rates.{Rates}
-use Rattle.machine.specs.Cases.{unitOf, termsOf, Pays, openingOf, stopsEarly}
+use Rattle.machine.specs.Cases.{unitOf, tariffAt, Pays, openingOf, stopsEarly}
 use Rattle.machine.proofs.Table.BoundsLaws.{worth-below}
 use Rattle.machine.proofs.Table.CodedLaws.{low}
 use Rattle.machine.proofs.Table.Sizes.{worth-size}
@@ -34,7 +34,7 @@ amount-above v (amount b) = low mostWorth worth-below v b
 
 module _ (c : Case) (e : refusalOf c ≡ 0) (late : stopsEarly c ≡ false) {rates : Rates} {costs : List ℤ} {cost : ℕ → ℤ}
     (pays : Pays rates costs cost) (work : List ℤ) (ys zs : List ℕ) (z : ℤ)
-    (found : Found (unitOf c) (termsOf c rates costs) (openingOf c) ys zs z) where
+    (found : Found (unitOf c) (tariffAt c rates costs) (openingOf c) ys zs z) where
   -- the best list by what an hour costs
   abbrev best : Option (List ℕ)
   best = bestBy (profitBy cost c) c
@@ -49,7 +49,7 @@ module _ (c : Case) (e : refusalOf c ≡ 0) (late : stopsEarly c ≡ false) {rat
       let w = worth-profit c e late pays l b in
       rw (found .profit ∙ ap coded w)
       (amount-above (profitBy cost c l) (subst (Bounded mostWorth) w
-      (worth-size (unitOf c) (fit-of-limits c e) (termsOf c rates costs) (fair-of-limits c e pays) 0 (openingOf c))))
+      (worth-size (unitOf c) (fit-of-limits c e) (tariffAt c rates costs) (fair-of-limits c e pays) 0 (openingOf c))))
 
   absent : best ≡ none → leZ z missing ≡ true
   absent b = rw (found .profit ∙ ap coded (worth-none c e late pays b)) refl

@@ -22,7 +22,7 @@ use Rattle.machine.specs.declared.Terms.{Terms}
 use Rattle.machine.specs.Bounds.{mostEnergy, mostEarned}
 use Rattle.machine.specs.Moves.{tariffOf, charge, earn}
 use Rattle.machine.specs.Fit.{Fair}
-use Rattle.machine.specs.Cases.{termsOf, Pays}
+use Rattle.machine.specs.Cases.{tariffAt, Pays}
 use Rattle.machine.proofs.Bridge.CasesLaws.{margin-at}
 use Rattle.machine.proofs.Bridge.FitLaws.{fair-of-limits}
 use Rattle.machine.proofs.Bridge.Profits.{earn-same}
@@ -30,7 +30,7 @@ use Rattle.curves.specs.Alike.{Alike}
 
 module _ (c : Case) (e : refusalOf c ≡ 0) {rates : Rates} {costs : List ℤ} {cost : ℕ → ℤ} (pays : Pays rates costs cost)
     (k : ℕ) (h : k < last c) {t : Terms} (like : Alike c rates k t) where
-  margin-is : t .margin .0 ≡ termsOf c rates costs k .margin .0
+  margin-is : t .margin .0 ≡ tariffAt c rates costs k .margin .0
   margin-is = like .margin ∙ sym (margin-at c (limits-of-refusalOf c e) (rates .variable) k h)
 
   pub alike-fair : Fair (tariffOf t costs)
@@ -44,7 +44,7 @@ module _ (c : Case) (e : refusalOf c ≡ 0) {rates : Rates} {costs : List ℤ} {
         tabled = pays .tabled;
       }
 
-  alike-earn : (q o : ℕ) → earn (tariffOf t costs) q o ≡ earn (termsOf c rates costs k) q o
+  alike-earn : (q o : ℕ) → earn (tariffOf t costs) q o ≡ earn (tariffAt c rates costs k) q o
   unfolding earn charge
   alike-earn q o = rw (margin-is, like .charges) refl
 

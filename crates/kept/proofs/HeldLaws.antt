@@ -9,8 +9,7 @@ use lib.ListN.{length}
 use lib.IntN.{ℤ}
 use Rattle.machine.specs.Lengths.{rowLength, placeLength, keptLength}
 use Rattle.machine.specs.declared.Unit.{Unit}
-use Rattle.machine.specs.Moves.{Tariff}
-use Rattle.machine.specs.Moves.{worth}
+use Rattle.machine.specs.Moves.{Tariff, worth}
 use Rattle.cells.specs.Table.{cellsOf}
 use Rattle.slots.specs.Saved.{SavedAt, Kept}
 use Rattle.slots.proofs.Slots.{saved-at-same}

@@ -6,8 +6,7 @@ use lib.ListN.{length}
 use lib.IntN.{ℤ}
 use Rattle.machine.specs.Lengths.{placeLength, keptLength}
 use Rattle.machine.specs.declared.Unit.{Unit}
-use Rattle.machine.specs.Moves.{Tariff}
-use Rattle.machine.specs.Moves.{worth}
+use Rattle.machine.specs.Moves.{Tariff, worth}
 use Rattle.slots.specs.Saved.{RowAt}
 
 -- the hour at which a lock with j hours to go ends, from hour k on; the end of the day cuts it

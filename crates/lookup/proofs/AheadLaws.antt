@@ -8,8 +8,7 @@ use lib.Seq.{getD-take, getD-drop}
 use lib.IntN.{ℤ, pos}
 use Rattle.machine.specs.Lengths.{sideLength}
 use Rattle.machine.specs.declared.Unit.{Unit}
-use Rattle.machine.specs.Moves.{Tariff}
-use Rattle.machine.specs.Moves.{worth, Worths}
+use Rattle.machine.specs.Moves.{Tariff, worth, Worths}
 use Rattle.machine.specs.Fit.{Fit, Fair}
 use Rattle.cells.specs.Table.{Sized, Row, Side, SideCell, Ahead, cellsOf}
 use Rattle.rows.proofs.Ends.{row-to, sized-at}

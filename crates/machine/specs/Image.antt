@@ -9,7 +9,7 @@ use Rattle.machine.specs.declared.Rates.{Rates}
 use Rattle.machine.specs.declared.State.{State}
 use Rattle.machine.specs.declared.State.the-variants.{Rise, Fall}
 use Rattle.model.specs.Automaton.{St, off, up, run, down}
-use Rattle.machine.specs.Cases.{termsOf}
+use Rattle.machine.specs.Cases.{tariffAt}
 use Rattle.machine.specs.Moves.{idle, running, earn}
 
 -- the machine's state of a state of the automaton
@@ -31,4 +31,4 @@ Good c (down i) = (1 ≤ i) × (i ≤ DD c)
 -- what a list earns from hour k on, hours from 0, after output q
 abbrev pub profitFrom : Case → Rates → List ℤ → ℕ → ℕ → List ℕ → ℤ
 profitFrom c r costs k q [] = pos 0
-profitFrom c r costs k q (p ∷ l) = earn (termsOf c r costs k) q p +ℤ profitFrom c r costs (suc k) p l
+profitFrom c r costs k q (p ∷ l) = earn (tariffAt c r costs k) q p +ℤ profitFrom c r costs (suc k) p l

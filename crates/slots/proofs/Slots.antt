@@ -10,8 +10,7 @@ use lib.ListN.{length, getD}
 use lib.IntN.{ℤ, pos}
 use Rattle.laws.specs.Placed.{Part}
 use Rattle.machine.specs.declared.Unit.{Unit}
-use Rattle.machine.specs.Moves.{Tariff}
-use Rattle.machine.specs.Moves.{worth, Worths}
+use Rattle.machine.specs.Moves.{Tariff, worth, Worths}
 use Rattle.machine.specs.Fit.{Fit}
 use Rattle.window.specs.Rows.{Written}
 use Rattle.window.proofs.RowLaws.{written-in}

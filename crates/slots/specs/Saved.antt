@@ -7,8 +7,7 @@ use lib.IntN.{ℤ, pos}
 use Rattle.model.specs.Limits.{longWork}
 use Rattle.machine.specs.Coded.{coded}
 use Rattle.machine.specs.declared.Unit.{Unit}
-use Rattle.machine.specs.Moves.{Tariff}
-use Rattle.machine.specs.Moves.{running, worth, Worths}
+use Rattle.machine.specs.Moves.{Tariff, running, worth, Worths}
 use Rattle.cells.specs.Table.{SideCell, Layer, cellsOf}
 use Rattle.machine.specs.Lengths.{sideLength}
 

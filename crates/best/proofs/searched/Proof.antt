@@ -14,7 +14,7 @@ use Rattle.model.proofs.LimitsLaws.{limits-of-refusalOf}
 use Rattle.machine.specs.declared.Unit.{Unit}
 use Rattle.machine.specs.Fit.{Fit}
 use Rattle.machine.specs.Proper.{Proper}
-use Rattle.machine.specs.Cases.{unitOf, marginsOf, ordersOf, chargesOf, termsOf, openingOf}
+use Rattle.machine.specs.Cases.{unitOf, marginsOf, ordersOf, chargesOf, tariffAt, openingOf}
 use Rattle.machine.proofs.Bridge.FitLaws.{fit-of-limits, fair-of-limits, opening-proper}
 use Rattle.cells.specs.Table.{Day, Found}
 use Rattle.best.proofs.FindLaws.{find-none, find-some, planned-work, cleared-past}
@@ -28,7 +28,7 @@ start c =
 
 -- what the search found, of the case's own unit, hours and opening
 module _ (c : tie.After-search-first) where
-  found : Found (unitOf (start c .args .case)) (termsOf (start c .args .case) (start c .args .rates)
+  found : Found (unitOf (start c .args .case)) (tariffAt (start c .args .case) (start c .args .rates)
       (start c .args .costs .now))
       (openingOf (start c .args .case)) (start c .args .outputs .now)
       (c .search-first .last .1 .1 .1 .1 .1 .1 .1 .1 .0) (c .search-first .result .0)

@@ -4,8 +4,7 @@ use borrow.Author.Needs.{needs}
 use native.Mathlib.Omega.{arith}
 use mathlib.Core.Path.{_≡_, refl}
 use Prim.Native.Nat.{ℕ, suc, _+_, _-_, _≤_, min}
-use Rattle.machine.specs.Moves.{dayOf, worth}
-use Rattle.machine.specs.Moves.{Tariff}
+use Rattle.machine.specs.Moves.{dayOf, worth, Tariff}
 use Rattle.machine.specs.Lengths.{rowLength, mostPlaces}
 use Rattle.cells.specs.Table.{Layer, cellsOf}
 use Rattle.layers.proofs.EntryLaws.{layer-at, entries-from}

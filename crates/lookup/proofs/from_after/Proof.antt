@@ -5,8 +5,7 @@ use mathlib.Core.Path.{_≡_, sym, ap, _∙_}
 use Prim.Native.Nat.{ℕ, _+_, _-_, _*_, _≤_, _<_}
 use lib.ListN.{length}
 use Rattle.machine.specs.Lengths.{placeLength}
-use Rattle.machine.specs.Moves.{Tariff}
-use Rattle.machine.specs.Moves.{worth}
+use Rattle.machine.specs.Moves.{Tariff, worth}
 use Rattle.cells.specs.Table.{entry, lockOf}
 use Rattle.rows.proofs.Ends.{sized-at}
 use Rattle.slots.specs.Saved.{SavedAt, Saved, slotFrom}

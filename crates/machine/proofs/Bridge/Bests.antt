@@ -21,7 +21,7 @@ use Rattle.machine.specs.Search.{Machine, maybe, outcome, value, plan, s
 use Rattle.machine.specs.Order.{Answers}
 use Rattle.machine.specs.declared.Rates.{Rates}
 use Rattle.machine.specs.Moves.{obeys, move, machine, worth}
-use Rattle.machine.specs.Cases.{unitOf, termsOf, Pays, openingOf, stopsEarly}
+use Rattle.machine.specs.Cases.{unitOf, tariffAt, Pays, openingOf, stopsEarly}
 use Rattle.machine.proofs.Search.Searched.{some-none, plan-earns, searched}
 use Rattle.machine.proofs.Table.Sizes.{only-some, move-within}
 use Rattle.machine.proofs.Search.Values.{worth-zero, plan-zero}
@@ -35,14 +35,14 @@ module _ (c : Case) (accepted : refusalOf c ≡ 0) (late : stopsEarly c ≡ fals
 
   -- the machine of the day
   abbrev day : Machine
-  day = machine (unitOf c) (termsOf c rates costs)
+  day = machine (unitOf c) (tariffAt c rates costs)
 
   answers : Answers (keeps c) (profitBy cost c) (search day (openingOf c))
   unfolding unitOf
   answers =
       searched day
       (λ k s p t e. move-within (unitOf c) (lim .minimum-le) (rise-le c lim) (fall-le c lim) s p t
-      (only-some (obeys (termsOf c rates costs k) p) (move (unitOf c) s p) t e .1))
+      (only-some (obeys (tariffAt c rates costs k) p) (move (unitOf c) s p) t e .1))
       (keeps c) (profitBy cost c) (openingOf c) (outcome-earned c lim (late-of c lim late) pays)
 
   search-bestBy : search day (openingOf c) ≡ bestBy (profitBy cost c) c
@@ -70,7 +70,7 @@ best-early c earns accepted early =
 module _ (c : Case) (accepted : refusalOf c ≡ 0) (late : stopsEarly c ≡ false) {rates : Rates} {costs : List ℤ}
     {cost : ℕ → ℤ} (pays : Pays rates costs cost) where
   abbrev hours : Machine
-  hours = machine (unitOf c) (termsOf c rates costs)
+  hours = machine (unitOf c) (tariffAt c rates costs)
 
   module _ (l : List ℕ) (best : bestBy (profitBy cost c) c ≡ some l) where
     pub plan-best : plan hours 0 (c .hours) (openingOf c) ≡ l
@@ -93,7 +93,7 @@ module _ (c : Case) (accepted : refusalOf c ≡ 0) (late : stopsEarly c ≡ fals
         ∙ outcome-earned c limits (late-of c limits late) pays l
         ∙ ap (λ t. cond t (some (profitBy cost c l)) none) (T→true (keeps c l) kept)
 
-    pub worth-profit : worth (unitOf c) (termsOf c rates costs) 0 (openingOf c) ≡ some (profitBy cost c l)
+    pub worth-profit : worth (unitOf c) (tariffAt c rates costs) 0 (openingOf c) ≡ some (profitBy cost c l)
     unfolding unitOf
     worth-profit = worth-zero hours (openingOf c) ∙ value-profit
 
@@ -106,7 +106,7 @@ module _ (c : Case) (accepted : refusalOf c ≡ 0) (late : stopsEarly c ≡ fals
 
   -- no worth, where there is no list
   pub worth-none : bestBy (profitBy cost c) c ≡ none
-      → worth (unitOf c) (termsOf c rates costs) 0 (openingOf c) ≡ none
+      → worth (unitOf c) (tariffAt c rates costs) 0 (openingOf c) ≡ none
   unfolding unitOf
   worth-none e =
       worth-zero hours (openingOf c)

@@ -21,7 +21,7 @@ use Rattle.model.proofs.LayoutLaws.{length-padded, getD-padded-in, getD-padded-
 use Rattle.model.proofs.SymbolsLaws.{stage-suc, hourly-suc, priced-suc}
 use Rattle.machine.specs.declared.Rates.{Rates}
 use Rattle.machine.specs.Moves.{puAt, pdAt, obeys}
-use Rattle.machine.specs.Cases.{unitOf, marginsOf, ordersOf, termsOf}
+use Rattle.machine.specs.Cases.{unitOf, marginsOf, ordersOf, tariffAt}
 
 -- past the count every entry is the filling, past the array too
 padded-rest : {X : Type 0} (d : X) (f : ℕ → X) (n size i : ℕ) → n ≤ i → getD (padded d f n size) i d ≡ d
@@ -89,11 +89,11 @@ module _ (c : Case) where
 
     -- the order of an hour, from 0, allows an output
     pub obeys-of-ordered : (r : Rates) (costs : List ℤ) (k q : ℕ) → k < last c → Ordered c (suc k) q
-        → obeys (termsOf c r costs k) q ≡ true
+        → obeys (tariffAt c r costs k) q ≡ true
     unfolding obeys
     obeys-of-ordered r costs k q h o = rw (order-at k h) (allows-of (order c (suc k)) q (o .on-line) (o .off-line))
 
-    pub ordered-of-obeys : (r : Rates) (costs : List ℤ) (k q : ℕ) → k < last c → obeys (termsOf c r costs k) q ≡ true
+    pub ordered-of-obeys : (r : Rates) (costs : List ℤ) (k q : ℕ) → k < last c → obeys (tariffAt c r costs k) q ≡ true
         → Ordered c (suc k) q
     unfolding obeys
     ordered-of-obeys r costs k q h e =

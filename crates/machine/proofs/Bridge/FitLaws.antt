@@ -23,7 +23,7 @@ use Rattle.model.proofs.OpeningLaws.{in-start, in-stop, in-none}
 use Rattle.machine.specs.declared.Rates.{Rates}
 use Rattle.machine.specs.declared.State.the-variants.{Rise, Fall}
 use Rattle.machine.specs.Moves.{spent, idle, running, puAt, pdAt}
-use Rattle.machine.specs.Cases.{unitOf, marginsOf, chargesOf, termsOf, Pays, ratesOf, openingOf}
+use Rattle.machine.specs.Cases.{unitOf, marginsOf, chargesOf, tariffAt, Pays, ratesOf, openingOf}
 use Rattle.machine.specs.Fit.{Fit, Tabled, Fair}
 use Rattle.machine.specs.Proper.{Proper}
 use Rattle.model.proofs.Automaton.Stages.{pu-le, pd-le, pd-lt}
@@ -78,7 +78,7 @@ module _ (c : Case) (lim : Limits c) where
   doubled-le : {z : ℤ} → Amount mostCharge z → natAbs (z *ℤ pos 2) ≤ mostFee
   doubled-le {z} a = omega (arith, abs-* z 2, a .le)
 
-  fair : {r : Rates} {costs : List ℤ} {cost : ℕ → ℤ} → Pays r costs cost → (k : ℕ) → Fair (termsOf c r costs k)
+  fair : {r : Rates} {costs : List ℤ} {cost : ℕ → ℤ} → Pays r costs cost → (k : ℕ) → Fair (tariffAt c r costs k)
   unfolding chargesOf
   fair {r} pays k =
       record {
@@ -151,7 +151,7 @@ pub fit-of-limits : (c : Case) → refusalOf c ≡ 0 → Fit (unitOf c)
 fit-of-limits c e = fit c (limits-of-refusalOf c e)
 
 pub fair-of-limits : (c : Case) → refusalOf c ≡ 0 → {r : Rates} {costs : List ℤ} {cost : ℕ → ℤ} → Pays r costs cost
-    → (k : ℕ) → Fair (termsOf c r costs k)
+    → (k : ℕ) → Fair (tariffAt c r costs k)
 fair-of-limits c e = fair c (limits-of-refusalOf c e)
 
 pub own-pays : (c : Case) → refusalOf c ≡ 0 → Pays (ratesOf c) [] (plainCost c)

@@ -16,7 +16,7 @@ use Rattle.machine.specs.declared.Rates.{Rates}
 use Rattle.machine.specs.declared.State.{State}
 use Rattle.machine.specs.Search.{maybe, only, add, outcome}
 use Rattle.machine.specs.Moves.{obeys, earn, output, move, machine}
-use Rattle.machine.specs.Cases.{unitOf, termsOf}
+use Rattle.machine.specs.Cases.{unitOf, tariffAt}
 use Rattle.model.specs.Automaton.{St, Runs, Final}
 use Rattle.machine.specs.Image.{image, Good, profitFrom}
 use Rattle.machine.proofs.Search.Searched.{some-none}
@@ -32,15 +32,15 @@ unadd g (some w) v e = (w, refl)
 
 module _ (c : Case) (lim : Limits c) (rates : Rates) (costs : List ℤ) where
   abbrev Earned : ℕ → ℕ → St → List ℕ → Option ℤ
-  Earned k n s l = outcome (machine (unitOf c) (termsOf c rates costs)) k n (image c s) l
+  Earned k n s l = outcome (machine (unitOf c) (tariffAt c rates costs)) k n (image c s) l
 
   -- what output q earns in hour k, from 0
   abbrev gainAt : ℕ → St → ℕ → ℤ
-  gainAt k s q = earn (termsOf c rates costs k) (output (unitOf c) (image c s)) q
+  gainAt k s q = earn (tariffAt c rates costs k) (output (unitOf c) (image c s)) q
 
   -- the state after it, if the machine allows it
   abbrev nextAt : ℕ → St → ℕ → Option State
-  nextAt k s q = only (obeys (termsOf c rates costs k) q) (move (unitOf c) (image c s) q)
+  nextAt k s q = only (obeys (tariffAt c rates costs k) q) (move (unitOf c) (image c s) q)
 
   -- a list that runs earns its profit
   pub runs-profit : (l : List ℕ) (k : ℕ) (s : St) → k + length l ≡ last c → Good c s → Runs c Final (Ordered c) k s l
@@ -66,20 +66,20 @@ module _ (c : Case) (lim : Limits c) (rates : Rates) (costs : List ℤ) where
       go (nextAt k s q) refl e (λ t w. runs-of-earned l n (suc k) t w (omega arith))
     where
       go : (x : Option State) → nextAt k s q ≡ x
-          → maybe none (λ x. add (gainAt k s q) (outcome (machine (unitOf c) (termsOf c rates costs)) (suc k) n x l))
+          → maybe none (λ x. add (gainAt k s q) (outcome (machine (unitOf c) (tariffAt c rates costs)) (suc k) n x l))
           x ≡ some v
           → ((t : St) (w : ℤ) → Good c t → Earned (suc k) n t l ≡ some w → Ran n (suc k) t l) → Ran (suc n) k s (q ∷ l)
       go none d f ih = absurd (some-none (sym f))
       go (some x) d f ih = back (move-step c lim q s x g (passed .1))
         where
-          passed : (obeys (termsOf c rates costs k) q ≡ true) × (move (unitOf c) (image c s) q ≡ some x)
-          passed = only-some (obeys (termsOf c rates costs k) q) (move (unitOf c) (image c s) q) x d
+          passed : (obeys (tariffAt c rates costs k) q ≡ true) × (move (unitOf c) (image c s) q ≡ some x)
+          passed = only-some (obeys (tariffAt c rates costs k) q) (move (unitOf c) (image c s) q) x d
 
           back : Lands c q s x → Ran (suc n) k s (q ∷ l)
           back (lands t a i) =
-              let (w, left) = unadd (gainAt k s q) (outcome (machine (unitOf c) (termsOf c rates costs)) (suc k) n x
+              let (w, left) = unadd (gainAt k s q) (outcome (machine (unitOf c) (tariffAt c rates costs)) (suc k) n x
               l) v f in
-              let same = subst (λ y. outcome (machine (unitOf c) (termsOf c rates costs)) (suc k) n y l ≡ some w)
+              let same = subst (λ y. outcome (machine (unitOf c) (tariffAt c rates costs)) (suc k) n y l ≡ some w)
               (sym i) left in
               let (r, e) = ih t w (good-step c lim q s t g a) same in
               ((t, a, ordered-of-obeys c lim rates costs k q (omega arith) (passed .0), r), ap suc e)

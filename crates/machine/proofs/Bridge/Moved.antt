@@ -20,8 +20,7 @@ use Rattle.model.specs.Automaton.{leave1, sink, land}
 use Rattle.machine.specs.Image.{image, Good}
 use Rattle.machine.proofs.Table.Sizes.{only-some}
 use Rattle.machine.proofs.Table.Follows.{follow-stay, follow-start, follow-rise, follow-run, follow-leave}
-use Rattle.machine.proofs.Table.Follows.{follow-fall}
-use Rattle.machine.proofs.Table.Follows.{follow-ramp}
+use Rattle.machine.proofs.Table.Follows.{follow-fall, follow-ramp}
 use Rattle.machine.proofs.Bridge.CasesLaws.{pu-at, pd-at}
 
 -- with output q, the automaton goes from s to a state whose image is x

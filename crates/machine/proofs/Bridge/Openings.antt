@@ -22,7 +22,7 @@ use Rattle.machine.specs.declared.State.the-variants.{Rise, Fall}
 use Rattle.machine.specs.Search.{outcome}
 use Rattle.machine.specs.Order.{earned}
 use Rattle.machine.specs.Moves.{idle, running, output, machine}
-use Rattle.machine.specs.Cases.{unitOf, termsOf, Pays, openingOf, stopsEarly}
+use Rattle.machine.specs.Cases.{unitOf, tariffAt, Pays, openingOf, stopsEarly}
 use Rattle.model.specs.Automaton.{St, first, LateStop}
 use Rattle.machine.specs.Image.{image, Good, profitFrom}
 use Rattle.model.proofs.Automaton.Keeping.{keeps-runs}
@@ -99,14 +99,14 @@ module _ (c : Case) where
     module _ (late : LateStop c) {rates : Rates} {costs : List ℤ} {cost : ℕ → ℤ} (pays : Pays rates costs cost)
         (l : List ℕ) where
       abbrev Outcome : Option ℤ
-      Outcome = outcome (machine (unitOf c) (termsOf c rates costs)) 0 (last c) (image c start) l
+      Outcome = outcome (machine (unitOf c) (tariffAt c rates costs)) 0 (last c) (image c start) l
 
       outcome-of-keeps : T (keeps c l) → Outcome ≡ some (profitBy cost c l)
       outcome-of-keeps t =
           let (n, q, r) = keeps-runs c l lim .0 t in
           let gain = runs-profit c lim rates costs l 0 start (omega arith) good-first r in
           subst
-          (λ k. outcome (machine (unitOf c) (termsOf c rates costs)) 0 k (image c start) l ≡ some (profitBy cost c l)) n
+          (λ k. outcome (machine (unitOf c) (tariffAt c rates costs)) 0 k (image c start) l ≡ some (profitBy cost c l)) n
           (gain
           ∙ ap (λ q. some (profitFrom c rates costs 0 q l)) output-first
           ∙ ap some (profitFrom-profitBy c lim pays l (λ k h. omega (arith, p-le c lim l t k h, lim .capacity-le)) n))
@@ -116,17 +116,17 @@ module _ (c : Case) where
           let (r, n) = runs-of-earned c lim rates costs l (last c) 0 start v (omega arith) good-first e in
           keeps-runs c l lim .1 (n, late, r)
 
-      pub outcome-earned : outcome (machine (unitOf c) (termsOf c rates costs)) 0 (last c) (openingOf c) l
+      pub outcome-earned : outcome (machine (unitOf c) (tariffAt c rates costs)) 0 (last c) (openingOf c) l
           ≡ earned (keeps c) (profitBy cost c) l
       outcome-earned =
           subst
-          (λ s. outcome (machine (unitOf c) (termsOf c rates costs)) 0 (last c) s l
+          (λ s. outcome (machine (unitOf c) (tariffAt c rates costs)) 0 (last c) s l
           ≡ earned (keeps c) (profitBy cost c) l)
           image-first
           (go (keeps c l) refl Outcome refl)
         where
           go : (t : Bool) → keeps c l ≡ t → (x : Option ℤ)
-              → outcome (machine (unitOf c) (termsOf c rates costs)) 0 (last c) (image c start) l ≡ x
+              → outcome (machine (unitOf c) (tariffAt c rates costs)) 0 (last c) (image c start) l ≡ x
               → x ≡ cond t (some (profitBy cost c l)) none
           go true e x d = sym d ∙ outcome-of-keeps (true→T (keeps c l) e)
           go false e none d = refl

@@ -21,7 +21,7 @@ use Rattle.model.proofs.Automaton.Hours.{on, rise}
 use Rattle.machine.specs.declared.Rates.{Rates}
 use Rattle.machine.specs.Bounds.{mostEnergy}
 use Rattle.machine.specs.Moves.{costAt, spent, charge, earn}
-use Rattle.machine.specs.Cases.{chargesOf, termsOf, Pays}
+use Rattle.machine.specs.Cases.{chargesOf, tariffAt, Pays}
 use Rattle.machine.specs.Image.{profitFrom}
 use Rattle.machine.proofs.Bridge.CasesLaws.{margin-at}
 use Rattle.model.proofs.Automaton.Literals.{v-is, y-is, z-is}
@@ -70,7 +70,7 @@ module _ (c : Case) (lim : Limits c) {rates : Rates} {costs : List ℤ} {cost : 
   energy-le k h = omega (arith, within k (omega arith), within (suc k) h)
 
   pub earn-same : (k : ℕ) → k < last c
-      → profitByAt cost c l (suc k) ≡ earn (termsOf c rates costs k) (p c l k) (p c l (suc k))
+      → profitByAt cost c l (suc k) ≡ earn (tariffAt c rates costs k) (p c l k) (p c l (suc k))
   unfolding chargesOf charge earn
   earn-same k h =
       let q = p c l k in
@@ -99,12 +99,12 @@ module _ (c : Case) (lim : Limits c) {rates : Rates} {costs : List ℤ} {cost : 
   profit-from [] k n e = +ℤ-idr (profitByTo cost c l k) ∙ ap (profitByTo cost c l) (omega arith)
   profit-from (q ∷ m) k n e =
       let here : p c l (suc k) ≡ q = ap (p c l) (omega arith) ∙ e 0 in
-      let hour : earn (termsOf c rates costs k) (p c l k) q ≡ profitByAt cost c l (suc k) =
-      ap (earn (termsOf c rates costs k) (p c l k)) (sym here) ∙ sym (earn-same k (omega arith)) in
+      let hour : earn (tariffAt c rates costs k) (p c l k) q ≡ profitByAt cost c l (suc k) =
+      ap (earn (tariffAt c rates costs k) (p c l k)) (sym here) ∙ sym (earn-same k (omega arith)) in
       let more = profitByTo-more cost c l k in
       let rest = profit-from m (suc k) (omega arith) (λ i. ap (p c l) (omega arith) ∙ e (suc i)) in
       let after = profitFrom c rates costs (suc k) in
-      sym (+ℤ-assoc (profitByTo cost c l k) (earn (termsOf c rates costs k) (p c l k) q) (after q m))
+      sym (+ℤ-assoc (profitByTo cost c l k) (earn (tariffAt c rates costs k) (p c l k) q) (after q m))
       ∙ ap (λ x. profitByTo cost c l k +ℤ x +ℤ after q m) hour
       ∙ ap (λ x. x +ℤ after q m) (sym more)
       ∙ ap (λ x. profitByTo cost c l (suc k) +ℤ after x m) (sym here)
