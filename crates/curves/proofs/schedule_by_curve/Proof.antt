@@ -163,8 +163,8 @@ returns-5 c =
     let r = i .find .ensures in
     given (read w
     ∙ scheduleByCurveOf-planned (a .kind) (p .curve) (a .reading .case) (a .table .now) (a .work .now) (a .outputs .now)
-    (p .within) (g .before .before .before .if1 .left) (omega (arith, w .work-of .ensures, g .before .before .if2 .left))
-    (g .if3 .left)) (
+    (p .within) (g .before .before .before .if1 .left)
+    (omega (arith, w .work-of .ensures, g .before .before .if2 .left)) (g .if3 .left)) (
       r .0 (a .kind) (usable w) (shown f),
       (
         filled (usable w) (lent f) (drawn f),

@@ -106,7 +106,8 @@ module _ (c : Case) where
           let (n, q, r) = keeps-runs c l lim .0 t in
           let gain = runs-profit c lim rates costs l 0 start (omega arith) good-first r in
           subst
-          (λ k. outcome (machine (unitOf c) (tariffAt c rates costs)) 0 k (image c start) l ≡ some (profitBy cost c l)) n
+          (λ k. outcome (machine (unitOf c) (tariffAt c rates costs)) 0 k (image c start) l
+          ≡ some (profitBy cost c l)) n
           (gain
           ∙ ap (λ q. some (profitFrom c rates costs 0 q l)) output-first
           ∙ ap some (profitFrom-profitBy c lim pays l (λ k h. omega (arith, p-le c lim l t k h, lim .capacity-le)) n))
