@@ -3,9 +3,8 @@ use mathlib.Core.Path.{_≡_, refl, sym, ap, _∙_}
 use mathlib.Core.Logic.{_⊎_, inl, inr, _↔_}
 use mathlib.Core.Bool.{Bool, true, false, not, _||_}
 use mathlib.Core.List.{List, [], _∷_}
-use mathlib.Core.Option.{Option, none, some}
+use mathlib.Core.Option.{some}
 use Prim.Native.Nat.{ℕ, _≤_, _<_}
-use native.Mathlib.Decide.{ℕ-discrete}
 use native.Mathlib.Omega.{arith}
 use borrow.Author.Tests.{eq-eqb, ne-eqb, lt-ltb, le-ltb}
 use lib.Dec.{T, ltb, lt→ltb}
@@ -32,10 +31,11 @@ use Rattle.model.specs.Curves.{scheduledBy, scheduleByCurveOf}
 use Rattle.model.specs.Words.{markingOf, earnedAt}
 use Rattle.model.specs.Promises.{FindsList, FindsNone, FindsRefused, ChecksRefused, Stays, Fills}
 use Rattle.model.proofs.CostLaws.{profit-by, profitBy-same, energy-le}
-use Rattle.model.proofs.KeepsLaws.{kept-length, kept-none, kept-of-none, breach-rule}
+use Rattle.model.proofs.KeepsLaws.{kept-length, kept-none}
 use Rattle.model.proofs.RefusalsLaws.{firstOf-tests, tests-within}
 use Rattle.model.proofs.BestLaws.{bestBy-some, bestBy-none, none-of-bestBy}
-use Rattle.model.proofs.AnswersLaws.{refused-finds, planned-list, planned-none, none-of-planned}
+use Rattle.model.proofs.AnswersLaws.{number, keeps-of-passing, refused-finds, planned-list, planned-none}
+use Rattle.model.proofs.AnswersLaws.{none-of-planned}
 
 -- what a list earns that keeps the rules: no hour of it has an energy past the table
 pub curve-earns : (k : Kind) (c : Case) (l : List ℕ) → refusalOf c ≡ 0 → T (keeps c l)
@@ -226,29 +226,15 @@ module _ (k : Kind) where
       unfolding judged
       passes-of-keeps t = checkByCurveOf-judged c l table e (kept-length c l t) room ∙ rw (kept-none c l t)
 
+      pub keeps-of-curve-passes : {x : ℤ} → verdictNumbers (checkByCurveOf k Accepted c l table .answer) ≡ (0, 0, 0, x)
+          → T (keeps c l)
+      keeps-of-curve-passes =
+          keeps-of-passing c l (earnedBy k c l)
+          (λ h. ap (λ f. number (f .answer)) (checkByCurveOf-length c l table e h))
+          (λ h. ap (λ f. f .answer) (checkByCurveOf-judged c l table e h room))
+
       keeps-of-passes : checkByCurveOf k Accepted c l table ≡ passing → T (keeps c l)
-      unfolding judged
-      keeps-of-passes w = go (ℕ-discrete (length l) (last c)) (breach c l) refl
-        where
-          numbers : {f : Filling Verdict} → checkByCurveOf k Accepted c l table ≡ f
-              → verdictNumbers (f .answer) ≡ verdictNumbers (passing .answer)
-          numbers d = ap (λ (f : Filling Verdict). verdictNumbers (f .answer)) (sym d ∙ w)
-
-          verdict : {x : Option Breach} → breach c l ≡ x
-              → _≡_ {A = Filling Verdict} (record {
-                answer = judged (earnedBy k c l) (breach c l);
-                table = tabled k
-                    table;
-              })
-              (record { answer = judged (earnedBy k c l) x; table = tabled k table })
-          verdict d = ap (λ r. record { answer = judged (earnedBy k c l) r; table = tabled k table }) d
-
-          go : Dec (length l ≡ last c) → (x : Option Breach) → breach c l ≡ x → T (keeps c l)
-          go (no h) x d = absurd (let z = ap (λ t. t .0) (numbers (checkByCurveOf-length c l table e h)) in omega arith)
-          go (yes h) none d = kept-of-none c l h d
-          go (yes h) (some b) d =
-              absurd (breach-rule c l b d (ap (λ t. t .2) (numbers
-              (checkByCurveOf-judged c l table e h room ∙ verdict d))))
+      keeps-of-passes w = keeps-of-curve-passes (ap (λ (f : Filling Verdict). verdictNumbers (f .answer)) w)
 
       pub curve-passes : T (keeps c l) ↔ (checkByCurveOf k Accepted c l table ≡ passing)
       curve-passes = (passes-of-keeps, keeps-of-passes)

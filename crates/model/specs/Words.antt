@@ -141,21 +141,28 @@ tested c (suc k) n = cond (ltb k (c .hours)) (within 1 12 n || within 21 23 n) (
 abbrev pub KeepsAll : Case → Marking → Type 0
 KeepsAll c m = (k n : ℕ) → k < c .hours + c .falls → T (tested c k n) → Kept c m k n
 
--- the profit by its sums over hours 1 to T, in half-mills
-abbrev pub earned : Case → Marking → ℤ
-earned c m =
-    sumℤ (λ k. priced (c .prices) k *ℤ pos (m .p k + m .p (k - 1))) (c .hours)
-    -ℤ (c .variable .0 *ℤ pos (sum (λ k. m .p k + m .p (k - 1)) (c .hours))
+-- what hours 1 to T sell their energy for, in half-mills, and what they spend: F for it, A, B and C for hours on-line,
+-- starts and stops; so much is the profit
+abbrev pub sold : Case → Marking → ℤ
+sold c m = sumℤ (λ k. priced (c .prices) k *ℤ pos (m .p k + m .p (k - 1))) (c .hours)
+
+abbrev pub spent : Case → Marking → ℤ
+spent c m =
+    c .variable .0 *ℤ pos (sum (λ k. m .p k + m .p (k - 1)) (c .hours))
     +ℤ (c .fixed .0 *ℤ pos (2 * sum (online c m) (c .hours))
-    +ℤ (c .startcost .0 *ℤ pos (2 * sum (m .y) (c .hours)) +ℤ c .stopcost .0 *ℤ pos (2 * sum (m .z) (c .hours)))))
+    +ℤ (c .startcost .0 *ℤ pos (2 * sum (m .y) (c .hours)) +ℤ c .stopcost .0 *ℤ pos (2 * sum (m .z) (c .hours))))
+
+abbrev pub earned : Case → Marking → ℤ
+earned c m = sold c m -ℤ spent c m
 
 -- the same by what an hour costs at its energy: the cost of every hour, less that of no energy for those off-line
+abbrev pub spentAt : (ℕ → ℤ) → Case → Marking → ℤ
+spentAt cost c m =
+    (sumℤ (λ k. cost (m .p k + m .p (k - 1))) (c .hours) -ℤ cost 0 *ℤ pos (c .hours - sum (online c m) (c .hours)))
+    +ℤ (c .startcost .0 *ℤ pos (2 * sum (m .y) (c .hours)) +ℤ c .stopcost .0 *ℤ pos (2 * sum (m .z) (c .hours)))
+
 abbrev pub earnedAt : (ℕ → ℤ) → Case → Marking → ℤ
-earnedAt cost c m =
-    sumℤ (λ k. priced (c .prices) k *ℤ pos (m .p k + m .p (k - 1))) (c .hours)
-    -ℤ ((sumℤ (λ k. cost (m .p k + m .p (k - 1))) (c .hours)
-    -ℤ cost 0 *ℤ pos (c .hours - sum (online c m) (c .hours)))
-    +ℤ (c .startcost .0 *ℤ pos (2 * sum (m .y) (c .hours)) +ℤ c .stopcost .0 *ℤ pos (2 * sum (m .z) (c .hours))))
+earnedAt cost c m = sold c m -ℤ spentAt cost c m
 
 -- the first breach is that of rule n at hour k: no rule is broken earlier, none of a lower number then, and that one is
 pub record Breaks (c : Case) (m : Marking) (k n : ℕ) : Type 0 where
