@@ -3,7 +3,6 @@
 // `scheduleOf`; the best list is `bestDay` of model's specs/Best. A case outside the limits is refused by 2 to 8 or 13,
 // memory that is too short by 10, and nothing is changed then. Beside it, the search of a case by whatever its energy
 // costs (specs/Searched), which other crates of this repository call with what it asks for.
-pub mod unit;
 mod wipe;
 
 use machine::Charges;
@@ -12,10 +11,10 @@ use machine::State;
 use machine::Unit;
 use model::Case;
 use model::HOURS;
-use model::HalfMills;
 use model::Outcome;
 use model::Plan;
 use model::Reading;
+use quantities::HalfMills;
 ghost use mathlib.Core.Bool.{false};
 ghost use mathlib.Core.Path.{_≡_};
 ghost use Prim.Native.Nat.{ℕ, _≤_};
@@ -165,7 +164,7 @@ pub fn schedule(reading: Reading, work: &mut [i64], outputs: &mut [u16]) -> Plan
 {
     let outcome = reading.outcome;
     let Outcome::Accepted = outcome else {
-        return Plan::Refused(outcome.number());
+        return Plan::Refused(limits::number(outcome));
     };
     let case = reading.case;
     let refusal = limits::refusal_of(case);

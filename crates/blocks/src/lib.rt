@@ -5,7 +5,7 @@
 // found near the places that were good for the block before. The definitions are those of specs/Sweeps, specs/Offers
 // and specs/Cuts. Each function is called by crates of this repository, which keep what it asks for.
 use machine::ROW;
-use model::HalfMills;
+use quantities::HalfMills;
 ghost use mathlib.Core.Path.{_≡_};
 ghost use Prim.Native.Nat.{_+_, _-_, _≤_, _<_, max};
 ghost use lib.ListN.{length};

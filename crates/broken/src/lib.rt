@@ -14,7 +14,7 @@ use crate::times::kept_order;
 use crate::times::kept_time;
 use hours::Numbers;
 use model::Case;
-use model::Hour;
+use quantities::Hour;
 ghost use mathlib.Core.Path.{_≡_};
 ghost use mathlib.Core.Bool.{cond};
 ghost use mathlib.Core.List.{List};

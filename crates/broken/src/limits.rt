@@ -3,10 +3,10 @@
 // outputs and of counts of marks wraps.
 use hours::Numbers;
 use hours::stages::Sequence;
-use model::Output;
+use quantities::Output;
 ghost use mathlib.Core.Path.{_≡_};
 ghost use Prim.Native.Nat.{_+_, _*_, _≤_, _<_};
-ghost use Rattle.model.specs.Limits.{words};
+ghost use Rattle.quantities.specs.Widths.{words};
 ghost use Rattle.broken.specs.Compared.{aboveLeast, belowMost, withinRamp, meetsLow};
 
 // Two counts of marks together.

@@ -2,13 +2,13 @@
 // hour.
 use hours::Numbers;
 use model::Case;
-use model::Hour;
+use quantities::Hour;
 ghost use mathlib.Core.Path.{_≡_};
 ghost use mathlib.Core.Bool.{_&&_, _||_};
 ghost use mathlib.Core.List.{List};
 ghost use Prim.Native.Nat.{ℕ, _+_, _<_};
 ghost use lib.Dec.{leb, eqb};
-ghost use Rattle.model.specs.Limits.{words};
+ghost use Rattle.quantities.specs.Widths.{words};
 ghost use Rattle.hours.specs.Numbered.{Numbered};
 ghost use Rattle.broken.specs.Elapsed.{Held, Elapsed};
 

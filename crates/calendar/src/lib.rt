@@ -2,10 +2,10 @@
 // two lists of windows, in place of the case's own. 14 and 15 refuse lists and day before any case is looked at.
 use model::Case;
 use model::HOURS;
-use model::Hour;
 use model::Outcome;
 use model::Plan;
 use model::Reading;
+use quantities::Hour;
 ghost use mathlib.Core.Path.{_≡_};
 ghost use Rattle.model.specs.Layout.{withArrays};
 ghost use Rattle.model.specs.Calendar.{calendarOf};
@@ -46,7 +46,7 @@ pub fn schedule_by_calendar(
     }
     let outcome = reading.outcome;
     let Outcome::Accepted = outcome else {
-        return Plan::Refused(outcome.number());
+        return Plan::Refused(limits::number(outcome));
     };
     let case = reading.case;
     if case.hours != hours.0 as usize {

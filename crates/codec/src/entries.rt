@@ -7,9 +7,9 @@ ghost use Rattle.model.specs.Layout.{padded, noOutput, noMills, zeroed};
 ghost use Rattle.model.specs.Refusals.{refusalOf};
 use model::Case;
 use model::HOURS;
-use model::Mills;
-use model::Output;
 use model::STAGES;
+use quantities::Mills;
+use quantities::Output;
 
 // The first n outputs of a trajectory, and zero past them.
 fn first_outputs(outputs: [Output; STAGES], n: usize) -> [Output; STAGES]

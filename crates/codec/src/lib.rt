@@ -8,13 +8,13 @@ ghost use Rattle.model.specs.Layout.{blank};
 ghost use Rattle.model.specs.Answers.{readingOf, readOf, admitOf, writeOf};
 use model::Case;
 use model::HOURS;
-use model::Hour;
-use model::Mills;
 use model::Outcome;
-use model::Output;
 use model::Reading;
 use model::STAGES;
 use model::Written;
+use quantities::Hour;
+use quantities::Mills;
+use quantities::Output;
 
 // The record of zeros.
 fn blank() -> Case

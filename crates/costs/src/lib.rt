@@ -11,7 +11,7 @@ use curve::MOST_COEFFICIENT;
 use curve::SCALE;
 use curve::SIGN_PLACE;
 use curve::Supplied;
-use model::HalfMills;
+use quantities::HalfMills;
 ghost use mathlib.Core.Path.{_≡_};
 ghost use mathlib.Core.List.{_++_};
 ghost use Prim.Native.Nat.{_+_, _%_, _^_, _≤_, _<_};

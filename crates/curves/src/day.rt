@@ -12,8 +12,8 @@ ghost use Rattle.curves.specs.Alike.{Alike};
 use machine::Rates;
 use machine::Terms;
 use model::Case;
-use model::HalfMills;
-use model::Output;
+use quantities::HalfMills;
+use quantities::Output;
 
 // What the hour after hour k pays and charges, whatever its order. Its price stands at place k.
 fn terms_at(case: Case, rates: Rates, k: usize) -> Terms
@@ -22,7 +22,7 @@ fn terms_at(case: Case, rates: Rates, k: usize) -> Terms
 {
     let prices = case.prices;
     let margin = money::margin(prices[k], rates.variable);
-    let charges = best::unit::charges_of(case, rates.holds);
+    let charges = unit::charges_of(case, rates.holds);
     Terms {
         margin,
         order: 0,

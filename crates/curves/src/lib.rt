@@ -87,7 +87,7 @@ pub fn check_by_curve(reading: Reading, kind: Kind, list: &[u16], table: &mut [i
     let curve = costs::record_of(kind);
     let outcome = entered(curve, reading);
     let Outcome::Accepted = outcome else {
-        return Verdict::Refused(outcome.number());
+        return Verdict::Refused(limits::number(outcome));
     };
     let case = reading.case;
     if list.len() != case.hours {
@@ -121,7 +121,7 @@ pub fn schedule_by_curve(
     let curve = costs::record_of(kind);
     let outcome = entered(curve, reading);
     let Outcome::Accepted = outcome else {
-        return Plan::Refused(outcome.number());
+        return Plan::Refused(limits::number(outcome));
     };
     let case = reading.case;
     let n = limits::work_of(case);

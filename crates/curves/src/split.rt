@@ -13,9 +13,9 @@ ghost use Rattle.curves.specs.Even.{Even};
 use curve::COSTS;
 use curve::MOST_ENERGY;
 use machine::Rates;
-use model::HalfMills;
 use model::MOST_VARIABLE;
-use model::Mills;
+use quantities::HalfMills;
+use quantities::Mills;
 
 // Where the entries of the table lie on a line, the rates say what it says, and none is shown.
 pub(crate) struct Split {

@@ -5,13 +5,13 @@ use curve::Filled;
 use curve::Supplied;
 use model::Case;
 use model::Comparison;
-use model::HalfMills;
-use model::Hour;
 use model::Outcome;
 use model::Plan;
 use model::Reading;
 use model::Verdict;
 use model::Written;
+use quantities::HalfMills;
+use quantities::Hour;
 ghost use mathlib.Core.Path.{_≡_};
 ghost use Rattle.model.specs.declared.Outcome.the-variants.{Accepted};
 ghost use Rattle.model.specs.Refusals.{workLength};
@@ -66,7 +66,7 @@ fn reading_out(reading: Reading) -> GiqapsunReading
     let outcome = reading.outcome;
     let case = reading.case;
     GiqapsunReading {
-        number: outcome.number() as u32,
+        number: limits::number(outcome) as u32,
         case,
     }
 }

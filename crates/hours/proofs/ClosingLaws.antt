@@ -8,7 +8,7 @@ use borrow.Author.Tests.{lt-leb, le-leb}
 use lib.Dec.{leb, eqb}
 use lib.ListN.{getD}
 use Rattle.laws.proofs.Tests.{and-false}
-use Rattle.model.specs.declared.Output.{Output}
+use Rattle.quantities.specs.declared.Output.{Output}
 use Rattle.model.specs.Symbols.{bit, stage}
 use Rattle.model.proofs.ConstraintsLaws.{stage-more}
 

@@ -4,7 +4,7 @@ use mathlib.Core.List.{List}
 use Prim.Native.Nat.{ℕ, _+_, _*_, _-_, _≤_}
 use native.Mathlib.Omega.{arith}
 use Rattle.model.specs.declared.Case.{Case}
-use Rattle.model.specs.declared.Output.{Output}
+use Rattle.quantities.specs.declared.Output.{Output}
 use Rattle.model.specs.Limits.{mostStages}
 use Rattle.model.specs.Symbols.{sum, stage, UD, DD}
 use Rattle.model.specs.Marks.{yBack, z}

@@ -3,7 +3,7 @@ use mathlib.Core.Path.{_≡_}
 use mathlib.Core.List.{List}
 use Prim.Native.Nat.{ℕ, _+_, _-_, _*_}
 use Rattle.model.specs.declared.Case.{Case}
-use Rattle.model.specs.declared.Output.{Output}
+use Rattle.quantities.specs.declared.Output.{Output}
 use Rattle.model.specs.Symbols.{sum, stage, before, UD, DD}
 use Rattle.model.specs.Marks.{p, v, y, starting, z}
 use Rattle.model.specs.Constraints.{stopping, startOutput, stopOutput, stopsWithin}

@@ -1,7 +1,7 @@
 -- A trajectory within the limits. Definitions only. Assumes nothing.
 use mathlib.Core.List.{List}
 use Prim.Native.Nat.{ℕ, _≤_}
-use Rattle.model.specs.declared.Output.{Output}
+use Rattle.quantities.specs.declared.Output.{Output}
 use Rattle.model.specs.Limits.{mostStages, mostOutput}
 use Rattle.model.specs.Symbols.{stage}
 

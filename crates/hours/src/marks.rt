@@ -1,7 +1,7 @@
 // The outputs of a list and the marks v, y and z of an hour, by the outputs at its ends (model's specs/Marks).
 use model::Case;
-use model::Hour;
-use model::Output;
+use quantities::Hour;
+use quantities::Output;
 ghost use mathlib.Core.Path.{_≡_};
 ghost use Rattle.model.specs.Marks.{p};
 ghost use Rattle.hours.specs.Marked.{Online, Began, Marked};

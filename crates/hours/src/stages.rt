@@ -1,9 +1,9 @@
 // What a trajectory prescribes in an hour (model's specs/Constraints).
 use crate::counts::COUNTS;
 use crate::counts::between;
-use model::Hour;
-use model::Output;
 use model::STAGES;
+use quantities::Hour;
+use quantities::Output;
 ghost use mathlib.Core.Path.{_≡_};
 ghost use Prim.Native.Nat.{ℕ, _*_, _≤_, _<_};
 ghost use Rattle.hours.specs.Staged.{Staged};

@@ -12,7 +12,7 @@ use machine::ROW;
 use machine::SIDE;
 use machine::State;
 use machine::Unit;
-use model::Hour;
+use quantities::Hour;
 ghost use mathlib.Core.Path.{_≡_};
 ghost use Prim.Native.Nat.{suc, _+_, _≤_, _<_, min};
 ghost use lib.ListN.{length};

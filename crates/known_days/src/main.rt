@@ -11,16 +11,12 @@ use model::Comparison;
 use model::FORM_BYTES;
 use model::HOUR_BYTES;
 use model::HOURS;
-use model::HalfMills;
-use model::Hour;
 use model::LONG_WORK;
 use model::MOST_PRICE;
-use model::Mills;
 use model::OLD_HOUR_BYTES;
 use model::OLD_SECTIONS;
 use model::OLD_UNIT_BYTES;
 use model::Outcome;
-use model::Output;
 use model::PAIR_BYTES;
 use model::Plan;
 use model::Reading;
@@ -31,6 +27,10 @@ use model::STAGES;
 use model::UNIT_BYTES;
 use model::Verdict;
 use model::Written;
+use quantities::HalfMills;
+use quantities::Hour;
+use quantities::Mills;
+use quantities::Output;
 
 // The hours of the source's day, and the bytes of its trajectories, which have six outputs; the bytes of its case in
 // the old form and in form 3.

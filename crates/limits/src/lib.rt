@@ -1,19 +1,20 @@
-// The refusals of a record, 2 to 8 and 13: one test for each number, and the first that applies; and how many numbers
-// its search works in (model's specs/Refusals).
+// The refusals of a record, 2 to 8 and 13: one test for each number, and the first that applies; how many numbers its
+// search works in (model's specs/Refusals); and the number of an outcome (specs/Answers).
 ghost use mathlib.Core.Bool.{false, cond};
 ghost use mathlib.Core.Path.{_≡_};
 ghost use Prim.Native.Nat.{suc, _≤_, _<_};
 ghost use lib.Dec.{leb, eqb};
 ghost use lib.IntN.{pos, negℤ};
-ghost use Rattle.model.specs.Limits.{words, mostStages, mostHours, mostPrice, mostOrder};
+ghost use Rattle.model.specs.Limits.{mostStages, mostHours, mostPrice, mostOrder};
+ghost use Rattle.quantities.specs.Widths.{words};
 ghost use Rattle.model.specs.Symbols.{every, stage, hourly, priced};
 ghost use Rattle.model.specs.Refusals.{within, amounts, refusal2, refusal3, refusal4, refusal5, refusal6, refusal7};
 ghost use Rattle.model.specs.Refusals.{refusal8, refusal13, climbs, descends, opensFree, opensUp, opensDown};
 ghost use Rattle.model.specs.Refusals.{workLength, refusalOf};
+ghost use Rattle.model.specs.Answers.{outcomeNumber};
 ghost use Rattle.limits.specs.Steps.{stepped};
 use model::Case;
 use model::HOURS;
-use model::Hour;
 use model::LONG_WORK;
 use model::MOST_CHARGE;
 use model::MOST_ELAPSED;
@@ -22,11 +23,13 @@ use model::MOST_OUTPUT;
 use model::MOST_PRICE;
 use model::MOST_TIME;
 use model::MOST_VARIABLE;
-use model::Mills;
-use model::Output;
+use model::Outcome;
 use model::SHORT_TIME;
 use model::SHORT_WORK;
 use model::STAGES;
+use quantities::Hour;
+use quantities::Mills;
+use quantities::Output;
 
 // Whether a count is from 1 to `most`.
 fn counted(n: usize, most: usize) -> bool
@@ -295,4 +298,14 @@ pub fn refusal_of(case: Case) -> u8
     let from7 = first_of(seven, 7, first_of(eight, 8, first_of(thirteen, 13, 0)));
     let from6 = first_of(six, 6, from7);
     first_of(three, 3, first_of(four, 4, first_of(five, 5, from6)))
+}
+
+// The number of a refusal; 0 where there is none.
+pub fn number(outcome: Outcome) -> u8
+    ensures { λ r. ⌜ r ≡ outcomeNumber outcome ⌝ }
+{
+    match outcome {
+        Outcome::Accepted => 0,
+        Outcome::Refused(number) => number,
+    }
 }

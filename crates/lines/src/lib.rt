@@ -10,11 +10,11 @@ ghost use Rattle.model.specs.Limits.{mostHours};
 ghost use Rattle.model.specs.Printed.{sign, profitLine, refusedLine, hourLine, hourLines};
 ghost use Rattle.lines.specs.Puts.{Puts};
 use model::Case;
-use model::HalfMills;
-use model::Hour;
-use model::Output;
 use parts::put;
 use parts::put_field;
+use quantities::HalfMills;
+use quantities::Hour;
+use quantities::Output;
 
 // Puts "refused" and a number.
 pub fn put_refused(out: &mut [u8], number: u8) -> usize

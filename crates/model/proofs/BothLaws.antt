@@ -11,7 +11,7 @@ use lib.IntN.{_+ℤ_, +ℤ-assoc, +ℤ-idr, natAbs}
 use lib.ListN.{length, getD, List·getD-append}
 use lib.Seq.{getD-append-add}
 use Rattle.model.specs.declared.Case.{Case}
-use Rattle.model.specs.declared.Mills.{Mills}
+use Rattle.quantities.specs.declared.Mills.{Mills}
 use Rattle.model.specs.Limits.{mostHours, mostPrice, mostOrder}
 use Rattle.model.specs.Symbols.{hourly, priced, last, price, order}
 use Rattle.model.specs.Marks.{p, v, y, z}

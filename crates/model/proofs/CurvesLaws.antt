@@ -34,7 +34,7 @@ use Rattle.model.proofs.CostLaws.{profit-by, profitBy-same, energy-le}
 use Rattle.model.proofs.KeepsLaws.{kept-length, kept-none}
 use Rattle.model.proofs.RefusalsLaws.{firstOf-tests, tests-within}
 use Rattle.model.proofs.BestLaws.{bestBy-some, bestBy-none, none-of-bestBy}
-use Rattle.model.proofs.AnswersLaws.{number, keeps-of-passing, refused-finds, planned-list, planned-none}
+use Rattle.model.proofs.AnswersLaws.{keeps-of-passing, refused-finds, planned-list, planned-none}
 use Rattle.model.proofs.AnswersLaws.{none-of-planned}
 
 -- what a list earns that keeps the rules: no hour of it has an energy past the table
@@ -230,7 +230,7 @@ module _ (k : Kind) where
           → T (keeps c l)
       keeps-of-curve-passes =
           keeps-of-passing c l (earnedBy k c l)
-          (λ h. ap (λ f. number (f .answer)) (checkByCurveOf-length c l table e h))
+          (λ h. ap (λ f. verdictNumbers (f .answer)) (checkByCurveOf-length c l table e h))
           (λ h. ap (λ f. f .answer) (checkByCurveOf-judged c l table e h room))
 
       keeps-of-passes : checkByCurveOf k Accepted c l table ≡ passing → T (keeps c l)

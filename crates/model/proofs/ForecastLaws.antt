@@ -14,9 +14,9 @@ use lib.ListN.{length, take}
 use lib.Signed.{_≤ℤ_, ≤ℤ-refl}
 use Rattle.curve.specs.declared.Kind.{Kind}
 use Rattle.curve.specs.Cost.{costsLength, recordOf, accepted}
-use Rattle.laws.proofs.Signed.{linear, parts-+, parts--, parts-*}
+use Rattle.laws.proofs.Signed.{linear, parts-+, parts--, parts-*, parts-pos}
 use Rattle.model.specs.declared.Case.{Case}
-use Rattle.model.specs.declared.Mills.{Mills}
+use Rattle.quantities.specs.declared.Mills.{Mills}
 use Rattle.model.specs.declared.Outcome.the-variants.{Accepted}
 use Rattle.model.specs.declared.Verdict.{Verdict}
 use Rattle.model.specs.Symbols.{high, last}
@@ -36,8 +36,9 @@ use Rattle.model.proofs.BestLaws.{best-most, best-of-bestBy, none-of-be
 use Rattle.model.proofs.ScheduleLaws.{scheduleOf-planned}
 use Rattle.model.proofs.AnswersLaws.{passes, keeps-of-passes, planned-list, planned-none}
 use Rattle.model.proofs.CurvesLaws.{scheduleByCurveOf-planned, keeps-of-curve-passes, curve-passes}
-use Rattle.model.proofs.PricesLaws.{keeps-prices, profitOf-gain, profitBy-gain, gain-apart, best-no-lower}
-use Rattle.model.proofs.PricesLaws.{best-regret, best-raised, best-raised-at, earns-half-way, best-half-way}
+use Rattle.model.proofs.PricesLaws.{keeps-prices, profitOf-gain, profitBy-gain, gain-no-lower, gain-apart}
+use Rattle.model.proofs.PricesLaws.{best-no-lower, best-regret, best-raised, best-raised-at, earns-half-way}
+use Rattle.model.proofs.PricesLaws.{best-half-way}
 
 -- what a search answers: the best list of those that pass, with what it earns; or 11, and no list passes
 pub data Answered (hours : ℕ) (passes : List ℕ → Bool) (pays : List ℕ → ℤ) (s : Scheduling) : Type 0 where
@@ -208,6 +209,17 @@ module _ {c : Case} (calls : Calls c) (pays : List Mills → List ℕ → ℤ)
           parts-+ earned all,
         )
 
+    kept-promise : NoLower c (f .prices) (g .prices) → best calls f ≤ℤ earns calls g (plan calls f)
+    kept-promise h =
+        let first = pays (f .prices) (plan calls f) in
+        rw (at-f .profit, paid g (plan calls f) (at-f .top .kept), gains (f .prices) (g .prices) (plan calls f))
+        (omega (
+          linear,
+          gain-no-lower c (plan calls f) (f .prices) (g .prices) h,
+          parts-+ first of-f,
+          parts-pos 0,
+        ))
+
     raised : (d : ℕ) → RaisedBy c d (f .prices) (g .prices)
         → ((best calls f +ℤ pos (d * energyOf c (plan calls f))) ≤ℤ best calls g)
         × (best calls g ≤ℤ (best calls f +ℤ pos (d * energyOf c (plan calls g))))
@@ -230,6 +242,7 @@ module _ {c : Case} (calls : Calls c) (pays : List Mills → List ℕ → ℤ)
         planned = planned-passes;
         regret = regret;
         regret-most = regret-most;
+        kept-promise = kept-promise;
         raised = λ d f g n. raised f g n d;
         raised-at = λ j f g n. raised-at f g n j;
         half-way-plan = half-way-plan;

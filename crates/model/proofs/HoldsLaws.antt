@@ -9,7 +9,7 @@ use native.Mathlib.Omega.{arith}
 use lib.IntN.{ℤ}
 use lib.ListN.{getD}
 use Rattle.model.specs.declared.Case.{Case}
-use Rattle.model.specs.declared.Output.{Output}
+use Rattle.quantities.specs.declared.Output.{Output}
 use Rattle.model.specs.Limits.{mostStages}
 use Rattle.model.specs.Forms.{Form, unitWidths, stageWidths, numberSection, formWith, oldForm, newest, width}
 use Rattle.model.specs.Forms.{entryLength}

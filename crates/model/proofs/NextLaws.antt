@@ -8,7 +8,7 @@ use native.Mathlib.Omega.{arith}
 use lib.Dec.{T}
 use lib.ListN.{length, length-append}
 use Rattle.model.specs.declared.Case.{Case}
-use Rattle.model.specs.declared.Mills.{Mills}
+use Rattle.quantities.specs.declared.Mills.{Mills}
 use Rattle.model.specs.Limits.{mostHours}
 use Rattle.model.specs.Symbols.{last, order, p0, upStage, downStage}
 use Rattle.model.specs.Rules.{keeps}

@@ -10,7 +10,7 @@ use lib.IntN.{ℤ, pos, _+ℤ_, _-ℤ_, _*ℤ_}
 use lib.Signed.{_≤ℤ_}
 use Rattle.laws.proofs.Signed.{linear, parts-+, parts--, parts-*, parts-pos}
 use Rattle.model.specs.declared.Case.{Case}
-use Rattle.model.specs.declared.Mills.{Mills}
+use Rattle.quantities.specs.declared.Mills.{Mills}
 use Rattle.model.specs.Symbols.{before, priced, last, high, DD}
 use Rattle.model.specs.Marks.{p, v, y, yBack, starting, closes, z}
 use Rattle.model.specs.Constraints.{stopping, startOutput, stopOutput, stopsWithin}
@@ -84,7 +84,7 @@ module _ (c : Case) (f g : List Mills) (l : List ℕ) where
 
 -- ---- what rows differ by, over the energy of a list
 module _ (c : Case) (l : List ℕ) where
-  gain-no-lower : (f g : List Mills) → NoLower c f g → pos 0 ≤ℤ gain c f g l
+  pub gain-no-lower : (f g : List Mills) → NoLower c f g → pos 0 ≤ℤ gain c f g l
   gain-no-lower f g h =
       over-pos (energy c l) (λ k. entry g k -ℤ entry f k) (last c)
       (λ k a b. omega (linear, h k a b, parts-- (entry g k) (entry f k), parts-pos 0))

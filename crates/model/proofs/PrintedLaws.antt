@@ -15,13 +15,14 @@ use lib.ListN.{length, getD, drop, length-append, List·getD-append}
 use lib.Seq.{sets, take-at, drop-at}
 use lib.Signed.{ltZ}
 use Rattle.model.specs.declared.Case.{Case}
-use Rattle.model.specs.declared.HalfMills.{HalfMills}
+use Rattle.quantities.specs.declared.HalfMills.{HalfMills}
 use Rattle.model.specs.declared.Outcome.{Outcome}
 use Rattle.model.specs.declared.Outcome.the-variants.{Accepted, Refused}
 use Rattle.model.specs.declared.Plan.{Plan}
 use Rattle.model.specs.declared.Plan.the-variants.{Found, Refused as NotPlanned}
 use Rattle.model.specs.declared.Written.the-variants.{Bytes, Refused as NotWritten}
-use Rattle.model.specs.Limits.{mostHours, mostInput, shortWork, words}
+use Rattle.model.specs.Limits.{mostHours, mostInput, shortWork}
+use Rattle.quantities.specs.Widths.{words}
 use Rattle.model.specs.Symbols.{last, p0}
 use Rattle.model.specs.Marks.{p}
 use Rattle.model.specs.Profit.{energy, profitOf}

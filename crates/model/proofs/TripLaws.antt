@@ -12,7 +12,7 @@ use lib.Signed.{_≤ℤ_}
 use Rattle.model.specs.declared.Case.{Case}
 use Rattle.model.specs.declared.Outcome.the-variants.{Accepted}
 use Rattle.model.specs.declared.Written.the-variants.{Bytes, Refused}
-use Rattle.model.specs.Limits.{words}
+use Rattle.quantities.specs.Widths.{words}
 use Rattle.model.specs.Forms.{stageWidths, oldForm, newest, entryLength}
 use Rattle.model.specs.Layout.{AllBytes, noMills, unsigned, zeroed, fileOf, bytesOf}
 use Rattle.model.specs.Refusals.{refusalOf}

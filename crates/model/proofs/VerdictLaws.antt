@@ -9,7 +9,7 @@ use lib.Dec.{T}
 use lib.ListN.{length}
 use Rattle.model.specs.declared.Case.{Case}
 use Rattle.model.specs.declared.Breach.{Breach}
-use Rattle.model.specs.declared.HalfMills.{HalfMills}
+use Rattle.quantities.specs.declared.HalfMills.{HalfMills}
 use Rattle.model.specs.declared.Outcome.{Outcome}
 use Rattle.model.specs.declared.Outcome.the-variants.{Accepted, Refused}
 use Rattle.model.specs.declared.Verdict.{Verdict}

@@ -9,7 +9,7 @@ use lib.IntN.{ℤ, pos, natAbs, _+ℤ_, _-ℤ_, _*ℤ_}
 use lib.ListN.{getD, take}
 use lib.Signed.{_≤ℤ_, _<ℤ_}
 use Rattle.model.specs.declared.Case.{Case}
-use Rattle.model.specs.declared.Mills.{Mills}
+use Rattle.quantities.specs.declared.Mills.{Mills}
 use Rattle.model.specs.declared.Verdict.{Verdict}
 use Rattle.model.specs.Symbols.{sum, before}
 use Rattle.model.specs.Profit.{energy}
@@ -110,6 +110,8 @@ module _ {c : Case} (calls : Calls c) where
     -- and at most what they differ by, over all that the unit can give
     pub regret-most : (f a : Row c) → number f ≡ 0
         → best a ≤ℤ (earns a (plan f) +ℤ pos (2 * c .capacity .0 * distance c (f .prices) (a .prices)))
+    -- where no actual price is lower, the plan earns no less than the search said
+    pub kept-promise : (f a : Row c) → number f ≡ 0 → NoLower c (f .prices) (a .prices) → best f ≤ℤ earns a (plan f)
     -- ---- higher prices
     -- all higher by d: the profit rises by d over the energy of the first plan at the least, and of the second at the
     -- most; the second has no less energy

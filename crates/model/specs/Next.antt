@@ -6,7 +6,7 @@ use Prim.Native.Nat.{ℕ, suc, _+_, _*_, min}
 use lib.Dec.{ltb, eqb}
 use lib.ListN.{getD}
 use Rattle.model.specs.declared.Case.{Case}
-use Rattle.model.specs.declared.Mills.{Mills}
+use Rattle.quantities.specs.declared.Mills.{Mills}
 use Rattle.model.specs.Limits.{mostElapsed}
 use Rattle.model.specs.Symbols.{sum, bit, UD, DD, last, h}
 use Rattle.model.specs.Marks.{p, y, starting, closes, z}

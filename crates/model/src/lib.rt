@@ -1,12 +1,11 @@
-// The words that every other crate speaks in: the wrapped numbers, the case record with the fields of the case file,
-// and the answers. Each wrapped number has one unit: megawatts, hours, mills (thousandths of a dollar) and half-mills
-// never stand in for one another. What a case, a list and an answer mean is defined in specs/; specs/Promises says
-// what holds of the definitions.
+// The words that every other crate speaks in: the case record with the fields of the case file, and the answers. What a
+// case, a list and an answer mean is defined in specs/; specs/Promises says what holds of the definitions. No function
+// stands here, so that an edit of a definition proves laws alone again.
 
-ghost use mathlib.Core.Path.{_≡_};
-ghost use Prim.Native.Nat.{_+_, _-_, _<_, min, max};
-ghost use Rattle.model.specs.Limits.{words};
-ghost use Rattle.model.specs.Answers.{outcomeNumber};
+use quantities::HalfMills;
+use quantities::Hour;
+use quantities::Mills;
+use quantities::Output;
 
 // The limits of a case, each named once (specs/Limits). Entries that a record has room for: outputs of a trajectory,
 // hours of a day.
@@ -79,84 +78,6 @@ pub const WORDS: u32 = 65536;
 
 pub const HALF_LONGS: u32 = 2147483648;
 
-// Megawatts: an output at the end of an hour, or the most that it may change in an hour.
-#[repr(C)]
-pub struct Output(pub u16);
-
-impl Output {
-    // This output and as much more.
-    pub fn plus(self, by: Output) -> Output
-        requires { ⌜ self .0 + by .0 < words ⌝ }
-        ensures { λ r. ⌜ r .0 ≡ self .0 + by .0 ⌝ }
-    {
-        Output(self.0 + by.0)
-    }
-
-    // This output less another, or 0.
-    pub fn less(self, by: Output) -> Output
-        ensures { λ r. ⌜ r .0 ≡ self .0 - by .0 ⌝ }
-    {
-        if by.0 <= self.0 {
-            Output(self.0 - by.0)
-        } else {
-            Output(0)
-        }
-    }
-
-    // The lower of the two, and the higher.
-    pub fn least(self, other: Output) -> Output
-        ensures { λ r. ⌜ r .0 ≡ min (self .0) (other .0) ⌝ }
-    {
-        if self.0 <= other.0 { self } else { other }
-    }
-
-    pub fn most(self, other: Output) -> Output
-        ensures { λ r. ⌜ r .0 ≡ max (self .0) (other .0) ⌝ }
-    {
-        if self.0 <= other.0 { other } else { self }
-    }
-}
-
-// Hours: the index of an hour of the day, from 0, or a count of hours.
-#[repr(C)]
-pub struct Hour(pub u16);
-
-impl Hour {
-    // An hour later.
-    pub fn next(self) -> Hour
-        requires { ⌜ self .0 + 1 < words ⌝ }
-        ensures { λ r. ⌜ r .0 ≡ self .0 + 1 ⌝ }
-    {
-        Hour(self.0 + 1)
-    }
-
-    // This many hours less another, or 0.
-    pub fn less(self, by: Hour) -> Hour
-        ensures { λ r. ⌜ r .0 ≡ self .0 - by .0 ⌝ }
-    {
-        if by.0 <= self.0 {
-            Hour(self.0 - by.0)
-        } else {
-            Hour(0)
-        }
-    }
-
-    // The fewer of the two.
-    pub fn least(self, other: Hour) -> Hour
-        ensures { λ r. ⌜ r .0 ≡ min (self .0) (other .0) ⌝ }
-    {
-        if self.0 <= other.0 { self } else { other }
-    }
-}
-
-// Mills: money per megawatt-hour, per hour, per start or per stop.
-#[repr(C)]
-pub struct Mills(pub i32);
-
-// Half-mills: what a list earns.
-#[repr(C)]
-pub struct HalfMills(pub i64);
-
 // A case.
 #[repr(C)]
 pub struct Case {
@@ -193,18 +114,6 @@ pub struct Case {
 pub enum Outcome {
     Accepted,
     Refused(u8),
-}
-
-impl Outcome {
-    // The number of a refusal; 0 where there is none.
-    pub fn number(self) -> u8
-        ensures { λ r. ⌜ r ≡ outcomeNumber self ⌝ }
-    {
-        match self {
-            Outcome::Accepted => 0,
-            Outcome::Refused(number) => number,
-        }
-    }
 }
 
 // The answer of `read` and `admit`: beside a refusal the record is all zeros.

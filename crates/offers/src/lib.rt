@@ -3,11 +3,11 @@
 // that is lower at the first hour where they differ; of identical lists the first. A refused reading, a refused record
 // and a list that is not of T outputs are refused as the check refuses them. The lists are only read.
 use model::Comparison;
-use model::HalfMills;
-use model::Output;
 use model::Reading;
 use model::Verdict;
 use money::below;
+use quantities::HalfMills;
+use quantities::Output;
 use rules::check;
 ghost use mathlib.Core.Path.{_≡_};
 ghost use mathlib.Core.List.{List};

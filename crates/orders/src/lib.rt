@@ -4,9 +4,9 @@
 mod windows;
 
 use model::HOURS;
-use model::Hour;
 use model::LONG_DAY;
 use model::SHORT_DAY;
+use quantities::Hour;
 ghost use mathlib.Core.Bool.{not, _||_, cond};
 ghost use mathlib.Core.List.{[]};
 ghost use mathlib.Core.Path.{_≡_};

@@ -9,8 +9,8 @@ ghost use Rattle.model.specs.Limits.{mostHours, yearHours};
 ghost use Rattle.model.specs.Calendar.{windowsFrom};
 ghost use Rattle.orders.specs.Marked.{marked, overlaid};
 use model::HOURS;
-use model::Hour;
 use model::YEAR_HOURS;
+use quantities::Hour;
 
 // Whether n hours from an hour on end within the year.
 pub(crate) fn in_year(first: Hour, n: Hour) -> bool

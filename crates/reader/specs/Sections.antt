@@ -3,8 +3,8 @@ use mathlib.Core.List.{List, []}
 use Prim.Native.Nat.{ℕ, _*_, _/_}
 use lib.ListN.{length, getD}
 use Rattle.model.specs.declared.Case.{Case}
-use Rattle.model.specs.declared.Output.{Output}
-use Rattle.model.specs.declared.Mills.{Mills}
+use Rattle.quantities.specs.declared.Output.{Output}
+use Rattle.quantities.specs.declared.Mills.{Mills}
 use Rattle.model.specs.Limits.{mostStages, mostHours}
 use Rattle.model.specs.Forms.{Form as Table, entryLength}
 use Rattle.model.specs.Layout.{numberAt, fieldAt, padded, signed, noOutput, noMills}

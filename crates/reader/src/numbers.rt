@@ -5,8 +5,8 @@ ghost use Prim.Native.Nat.{_+_, _≤_, _<_};
 ghost use lib.ListN.{length, getD};
 ghost use Rattle.model.specs.Layout.{numberAt, signed};
 use model::HALF_LONGS;
-use model::Mills;
 use model::WORDS;
+use quantities::Mills;
 
 // The last 32-bit number.
 const LAST_LONG: u32 = HALF_LONGS + (HALF_LONGS - 1);

@@ -21,11 +21,11 @@ use crate::pairs::form_of;
 use crate::pairs::section;
 use model::Case;
 use model::HOURS;
-use model::Hour;
-use model::Mills;
-use model::Output;
 use model::STAGE_BYTES;
 use model::STAGES;
+use quantities::Hour;
+use quantities::Mills;
+use quantities::Output;
 
 // The outputs of a trajectory, and how many count.
 pub(crate) struct Trajectory {

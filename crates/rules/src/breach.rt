@@ -12,7 +12,7 @@ use hours::counts::count_marks;
 use hours::numbers_at;
 use model::Breach;
 use model::Case;
-use model::Hour;
+use quantities::Hour;
 ghost use mathlib.Core.Path.{_≡_};
 ghost use mathlib.Core.List.{List};
 ghost use Prim.Native.Nat.{ℕ, _+_, _-_};

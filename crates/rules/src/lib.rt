@@ -38,7 +38,7 @@ pub fn check(reading: Reading, list: &[u16]) -> Verdict
 {
     let outcome = reading.outcome;
     let Outcome::Accepted = outcome else {
-        return Verdict::Refused(outcome.number());
+        return Verdict::Refused(limits::number(outcome));
     };
     let case = reading.case;
     let refusal = refusal_of(case);

@@ -7,7 +7,7 @@ use lib.IntN.{ℤ, pos, negsuc, natAbs}
 use lib.ListN.{length}
 use mir.Syntax.{w64}
 use mir.Val.{SFits}
-use Rattle.model.specs.declared.HalfMills.{HalfMills}
+use Rattle.quantities.specs.declared.HalfMills.{HalfMills}
 use Rattle.model.specs.declared.Plan.{Plan}
 use Rattle.model.specs.declared.Plan.the-variants.{Found, Refused}
 use Rattle.model.specs.declared.Reading.{Reading}

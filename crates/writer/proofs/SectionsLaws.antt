@@ -5,7 +5,7 @@ use Prim.Native.Nat.{_<_}
 use native.Mathlib.Omega.{arith}
 use lib.ListN.{getD}
 use Rattle.model.specs.declared.Case.{Case}
-use Rattle.model.specs.Limits.{words}
+use Rattle.quantities.specs.Widths.{words}
 use Rattle.model.specs.Forms.{newest}
 use Rattle.model.specs.Layout.{joined, bytes, noOutput, noMills, unsigned, fieldBytes, sectionBytes}
 use Rattle.model.specs.Refusals.{refusalOf}

@@ -7,7 +7,8 @@ ghost use mathlib.Core.List.{[], _∷_, _++_};
 ghost use Prim.Native.Nat.{_+_, _*_, _≤_, _<_};
 ghost use lib.ListN.{length, getD};
 ghost use lib.Seq.{sets};
-ghost use Rattle.model.specs.Limits.{mostStages, words};
+ghost use Rattle.model.specs.Limits.{mostStages};
+ghost use Rattle.quantities.specs.Widths.{words};
 ghost use Rattle.model.specs.Forms.{newest, entryLength, pairsLength};
 ghost use Rattle.model.specs.Layout.{bytes, joined, noOutput, unsigned, fieldBytes, sectionBytes, pairBytes, bytesOf};
 ghost use Rattle.model.specs.Refusals.{refusalOf};
@@ -17,13 +18,13 @@ use model::Case;
 use model::FORM;
 use model::FORM_BYTES;
 use model::HOUR_BYTES;
-use model::Mills;
-use model::Output;
 use model::PAIR_BYTES;
 use model::SECTIONS;
 use model::STAGE_BYTES;
 use model::STAGES;
 use model::UNIT_BYTES;
+use quantities::Mills;
+use quantities::Output;
 
 // Where the unit section begins, and where it ends.
 const PAIRS_BYTES: usize = PAIR_BYTES * SECTIONS;

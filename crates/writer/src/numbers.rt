@@ -6,8 +6,8 @@ ghost use lib.ListN.{length};
 ghost use lib.Seq.{sets};
 ghost use Rattle.model.specs.Layout.{bytes, unsigned};
 use model::HALF_LONGS;
-use model::Mills;
 use model::WORDS;
+use quantities::Mills;
 
 // The least 32-bit number with a sign.
 const LEAST: i32 = -((HALF_LONGS - 1) as i32) - 1;

@@ -10,8 +10,8 @@ use lib.Dec.{eqb, eqb·suc-zero}
 use lib.IntN.{ℤ, pos, _-ℤ_}
 use lib.ListN.{getD, List·getD-eq-default}
 use Rattle.model.specs.declared.Case.{Case}
-use Rattle.model.specs.declared.Mills.{Mills}
-use Rattle.model.specs.declared.Output.{Output}
+use Rattle.quantities.specs.declared.Mills.{Mills}
+use Rattle.quantities.specs.declared.Output.{Output}
 use Rattle.model.specs.Limits.{mostStages, mostHours}
 use Rattle.model.specs.Symbols.{UD, DD, PU, PD, last, price, order}
 use Rattle.model.specs.Layout.{padded, noOutput, noMills}

@@ -12,7 +12,7 @@ use lib.IntN.{ℤ, pos, natAbs, _+ℤ_, _*ℤ_, +ℤ-idr}
 use lib.ListN.{getD}
 use Rattle.laws.proofs.Magnitude.{abs--, abs-*}
 use Rattle.model.specs.declared.Case.{Case}
-use Rattle.model.specs.declared.Mills.{Mills}
+use Rattle.quantities.specs.declared.Mills.{Mills}
 use Rattle.model.specs.Limits.{mostVariable, mostCharge}
 use Rattle.model.specs.Symbols.{high, low, UD, DD, A, F, last, price, p0, h, upStage, downStage}
 use Rattle.model.specs.Profit.{plainCost}

@@ -7,7 +7,7 @@ use native.Mathlib.Decide.{decLe}
 use native.Mathlib.Omega.{arith}
 use lib.ListN.{length}
 use Rattle.model.specs.declared.Case.{Case}
-use Rattle.model.specs.declared.Mills.{Mills}
+use Rattle.quantities.specs.declared.Mills.{Mills}
 use Rattle.model.specs.Layout.{Opening, openingOf, remade}
 use Rattle.model.specs.Automaton.{St, off, up, run, down, Step, stay, start, start1, climb, reach, hold, leave}
 use Rattle.model.specs.Automaton.{leave1, sink, land, Runs, Final}

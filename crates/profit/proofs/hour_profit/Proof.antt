@@ -5,7 +5,7 @@ use native.Mathlib.Omega.{arith}
 use native.Mathlib.Nat.{mul-le-mul}
 use Prim.Native.Nat.{_+_, _*_, _≤_}
 use lib.IntN.{natAbs}
-use Rattle.model.specs.Limits.{words}
+use Rattle.quantities.specs.Widths.{words}
 use Rattle.machine.specs.Bounds.{mostMargin}
 use Rattle.laws.proofs.Magnitude.{abs--, abs-*}
 use Rattle.profit.proofs.EarnedLaws.{hour-of}

@@ -9,9 +9,10 @@ use lib.ListN.{length, getD, length-append}
 use mir.Syntax.{w64}
 use mir.Val.{SFits}
 use borrow.Author.Needs.{needs}
-use Rattle.model.specs.declared.HalfMills.{HalfMills}
+use Rattle.quantities.specs.declared.HalfMills.{HalfMills}
 use Rattle.model.specs.declared.Plan.the-variants.{Found, Refused}
-use Rattle.model.specs.Limits.{mostHours, words}
+use Rattle.model.specs.Limits.{mostHours}
+use Rattle.quantities.specs.Widths.{words}
 use Rattle.model.specs.Answers.{readOf}
 use Rattle.model.specs.Printed.{profitLine, refusedLine, hourLines, readText}
 use Rattle.model.proofs.LimitsLaws.{Limits}

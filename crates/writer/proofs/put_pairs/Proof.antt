@@ -3,7 +3,7 @@
 use Prim.Native.Nat.{_<_}
 use native.Mathlib.Omega.{arith}
 use borrow.Author.Needs.{needs}
-use Rattle.model.specs.Limits.{words}
+use Rattle.quantities.specs.Widths.{words}
 use Rattle.model.proofs.SetsLaws.{pairs-written}
 use Rattle.model.proofs.TripLaws.{fileLength}
 use Rattle.writer.proofs.SectionsLaws.{file-short}

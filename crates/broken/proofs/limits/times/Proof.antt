@@ -4,7 +4,7 @@ use mathlib.Core.Path.{refl}
 use native.Mathlib.Omega.{arith}
 use native.Mathlib.Nat.{mul-le-mul}
 use Prim.Native.Nat.{_*_, _≤_}
-use Rattle.model.specs.Limits.{words}
+use Rattle.quantities.specs.Widths.{words}
 use Rattle.broken.proofs.limits.times.Statement.{statement}
 use Rattle.broken.proofs.limits.times.Tie as tie
 

@@ -5,7 +5,7 @@ use mathlib.Core.Path.{_≡_, sym, ap, _∙_}
 use mathlib.Core.List.{List}
 use native.Mathlib.Omega.{arith}
 use Prim.Native.Nat.{ℕ, _+_, _-_, _*_, _≤_}
-use Rattle.model.specs.declared.Output.{Output}
+use Rattle.quantities.specs.declared.Output.{Output}
 use Rattle.model.specs.Symbols.{sum, stage}
 use Rattle.model.proofs.ConstraintsLaws.{stage-more}
 use Rattle.model.specs.Limits.{mostOutput}

@@ -4,7 +4,7 @@ use borrow.Author.Needs.{needs}
 use mathlib.Core.Path.{ap, _∙_}
 use Prim.Native.Nat.{_-_}
 use native.Mathlib.Omega.{arith}
-use Rattle.model.specs.declared.Output.{Output}
+use Rattle.quantities.specs.declared.Output.{Output}
 use Rattle.model.specs.Limits.{mostStages}
 use Rattle.model.specs.Layout.{padded, noOutput}
 use Rattle.reader.specs.Sections.{stageAt, trajectoryOf}

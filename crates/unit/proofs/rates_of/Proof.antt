@@ -1,7 +1,7 @@
--- `best::unit::rates_of` meets its contract, field by field. Assumes nothing.
+-- `unit::rates_of` meets its contract, field by field. Assumes nothing.
 use borrow.Author.Needs.{needs}
-use Rattle.best.proofs.unit.rates_of.Statement.{statement}
-use Rattle.best.proofs.unit.rates_of.Tie as tie
+use Rattle.unit.proofs.rates_of.Statement.{statement}
+use Rattle.unit.proofs.rates_of.Tie as tie
 
 returns : tie.Need-returns
 returns c =

@@ -1,10 +1,10 @@
--- `best::unit::stops_early` meets its contract: the sums fit, and the tests are the definition's. Assumes nothing.
+-- `unit::stops_early` meets its contract: the sums fit, and the tests are the definition's. Assumes nothing.
 use mathlib.Core.Path.{refl}
 use native.Mathlib.Omega.{arith}
 use Rattle.model.proofs.LimitsLaws.{Limits, limits-of-refusalOf}
 use Rattle.model.proofs.CapacityLaws.{stages-le}
-use Rattle.best.proofs.unit.stops_early.Statement.{statement}
-use Rattle.best.proofs.unit.stops_early.Tie as tie
+use Rattle.unit.proofs.stops_early.Statement.{statement}
+use Rattle.unit.proofs.stops_early.Tie as tie
 
 -- the case keeps the limits
 limits : (s : tie.Start) → Limits (s .args .case)

@@ -1,5 +1,5 @@
 // The unit of a case as the search sees it, the margins, orders and charges of its hours, and the state in which its
-// day opens (machine's specs/Cases).
+// day opens (machine's specs/Cases). For the crates of this repository, which call it with a case within the limits.
 ghost use mathlib.Core.Path.{_≡_};
 ghost use Prim.Native.Nat.{_≤_};
 ghost use lib.ListN.{getD, replicate};
@@ -14,11 +14,11 @@ use machine::State;
 use machine::Unit;
 use model::Case;
 use model::HOURS;
-use model::HalfMills;
-use model::Hour;
-use model::Mills;
-use model::Output;
 use model::STAGES;
+use quantities::HalfMills;
+use quantities::Hour;
+use quantities::Mills;
+use quantities::Output;
 
 // The first n outputs of a trajectory, and 0 past them.
 fn stages(outputs: [Output; STAGES], n: usize) -> [Output; STAGES]
@@ -36,7 +36,7 @@ fn stages(outputs: [Output; STAGES], n: usize) -> [Output; STAGES]
 }
 
 // The margins of the first n hours in place of zeros.
-pub(crate) fn margins(prices: [Mills; HOURS], variable: Mills, n: usize, to: &mut [i64; HOURS])
+pub fn margins(prices: [Mills; HOURS], variable: Mills, n: usize, to: &mut [i64; HOURS])
     requires { ⌜ (n ≤ mostHours) × (now to ≡ replicate mostHours (pos 0)) ⌝ }
     ensures { λ _. ⌜ now (to .exit)
         ≡ padded (pos 0) (λ k. getD prices k noMills .0 -ℤ variable .0) n mostHours ⌝ }
@@ -49,7 +49,7 @@ pub(crate) fn margins(prices: [Mills; HOURS], variable: Mills, n: usize, to: &mu
 }
 
 // The orders of the first n hours, and 0 past them.
-pub(crate) fn orders(bytes: [u8; HOURS], n: usize) -> [u8; HOURS]
+pub fn orders(bytes: [u8; HOURS], n: usize) -> [u8; HOURS]
     requires { ⌜ n ≤ mostHours ⌝ }
     ensures { λ r. ⌜ r ≡ padded 0 (λ k. getD bytes k 0) n mostHours ⌝ }
 {
@@ -63,7 +63,7 @@ pub(crate) fn orders(bytes: [u8; HOURS], n: usize) -> [u8; HOURS]
 }
 
 // What the energy of a day costs by F and A.
-pub(crate) fn rates_of(case: Case) -> Rates
+pub fn rates_of(case: Case) -> Rates
     ensures { λ r. ⌜ r ≡ ratesOf case ⌝ }
 {
     let variable = case.variable;
@@ -85,7 +85,7 @@ pub fn charges_of(case: Case, holds: HalfMills) -> Charges
 }
 
 // The state in which the day of a case within the limits opens.
-pub(crate) fn opening_of(case: Case) -> State
+pub fn opening_of(case: Case) -> State
     requires { ⌜ refusalOf case ≡ 0 ⌝ }
     ensures { λ r. ⌜ r ≡ openingOf case ⌝ }
 {
@@ -104,7 +104,7 @@ pub(crate) fn opening_of(case: Case) -> State
 }
 
 // Whether the day opens in a shut-down whose stop comes before the minimum up time has passed.
-pub(crate) fn stops_early(case: Case) -> bool
+pub fn stops_early(case: Case) -> bool
     requires { ⌜ refusalOf case ≡ 0 ⌝ }
     ensures { λ r. ⌜ r ≡ stopsEarly case ⌝ }
 {
@@ -114,7 +114,7 @@ pub(crate) fn stops_early(case: Case) -> bool
 }
 
 // The unit of a case within the limits.
-pub(crate) fn unit_of(case: Case) -> Unit
+pub fn unit_of(case: Case) -> Unit
     requires { ⌜ refusalOf case ≡ 0 ⌝ }
     ensures { λ r. ⌜ r ≡ unitOf case ⌝ }
 {

@@ -1,8 +1,8 @@
--- `best::unit::charges_of` meets its contract, field by field. Assumes nothing.
+-- `unit::charges_of` meets its contract, field by field. Assumes nothing.
 use borrow.Author.Needs.{needs}
 use Rattle.machine.specs.Cases.{chargesOf}
-use Rattle.best.proofs.unit.charges_of.Statement.{statement}
-use Rattle.best.proofs.unit.charges_of.Tie as tie
+use Rattle.unit.proofs.charges_of.Statement.{statement}
+use Rattle.unit.proofs.charges_of.Tie as tie
 
 returns : tie.Need-returns
 unfolding chargesOf

@@ -1,0 +1,2 @@
+-- What a wrapped number has room for.
+pub mod Widths
