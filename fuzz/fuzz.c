@@ -9,11 +9,12 @@
  * An accepted case that form 2 or the old form can hold is read from a file of that form too.
  * Of each accepted case pairs of lists are compared too: its best list, the best one at the prices in reverse, near
  * misses and the input's own numbers, at its own prices and at prices that leave no margin, where lists earn the same.
+ * It is searched at a second row of prices and at the row half-way too, and its best lists are carried from row to row.
  * Every answer is compared with that of the independent scheduler of tests/oracle; its search is left out on
  * large days, where it takes too long. Whatever the answers have to agree in among themselves is tested too.
  * Any difference aborts. The last lines say how often each outcome of a file, of a pair, of a calendar and of a curve
- * came up, what searched days open and close inside, and how many of them are longer than two days or have long minimum
- * times.
+ * came up, what searched days open and close inside, how many of them are longer than two days or have long minimum
+ * times, and what came of rows of prices.
  */
 #include "giqapsun.h"
 #include <stdio.h>
@@ -107,7 +108,8 @@ static uint8_t file[MARGIN + GIQAPSUN_FILE_MOST + MARGIN], file_before[MARGIN + 
 
 /* Files, pairs, calendars and curves by their outcome; days that were found from inside a start or a stop, lists that
    pass and close inside a stop, and those that break 21 at a stop after the day; days that were found past two days, of
-   a whole week, and with a long minimum time, and lists that break 21 or 22 of such a time. */
+   a whole week, and with a long minimum time, and lists that break 21 or 22 of such a time; rows of prices at which
+   there are lists and at which there are none, what twice the profit half-way is, and lists that lose at another. */
 static struct {
     unsigned long old, form_2, form_3, files_refused, by_12, by_13;
     unsigned long refused, neither, alone, profit, tie, identical;
@@ -115,6 +117,7 @@ static struct {
     unsigned long from_start, from_stop, to_stop, too_early;
     unsigned long past_two_days, whole_weeks, long_times, by_21, by_22;
     unsigned long tables, by_16, curve_days, other_lists, curve_lists, curve_11;
+    unsigned long rows, rows_11, no_lower, equal_sum, less, another, losing;
 } met;
 
 static void print_met(void)
@@ -132,6 +135,9 @@ static void print_met(void)
     fprintf(stderr, "curves: tables %lu, by 16 %lu, days found %lu, ", met.tables, met.by_16, met.curve_days);
     fprintf(stderr, "with another list %lu, 11 %lu, ", met.other_lists, met.curve_11);
     fprintf(stderr, "lists passed %lu\n", met.curve_lists);
+    fprintf(stderr, "forecasts: found %lu, 11 %lu, no price lower %lu, ", met.rows, met.rows_11, met.no_lower);
+    fprintf(stderr, "twice half-way the sum %lu, less %lu, ", met.equal_sum, met.less);
+    fprintf(stderr, "another list half-way %lu, lists that lose %lu\n", met.another, met.losing);
 }
 
 /* Whether a minimum time is above 8 hours. */
@@ -462,6 +468,103 @@ static void not_better(struct giqapsun_case c, const uint16_t *list, struct giqa
     }
 }
 
+/* A case at a row of prices, and its best list there. */
+struct row {
+    struct giqapsun_case c;
+    struct giqapsun_plan plan;
+    uint16_t list[GIQAPSUN_HOURS];
+};
+
+/* Searches a row. */
+static void search_row(struct row *row)
+{
+    row->plan = best_in(row->c, numbers_of(row->c), row->c.hours);
+    memcpy(row->list, outputs + MARGIN, sizeof row->list);
+}
+
+/* What a price of a row is above that of another, in mills per MWh. */
+static int64_t rise(const struct row *from, const struct row *to, size_t k)
+{
+    return (int64_t)to->c.prices[k] - from->c.prices[k];
+}
+
+/* The energy of an hour, in half-megawatt-hours. */
+static int64_t energy(const struct row *row, size_t k)
+{
+    return row->list[k] + (k == 0 ? row->c.initial : row->list[k - 1]);
+}
+
+/* The best list of a row at another: it passes and earns as much more as its energy does, and it loses no more than the
+   energies of the two differ in. Where no price is lower, neither is the profit. */
+static void carry(const struct row *from, const struct row *to)
+{
+    int64_t more = 0, most = 0, widest = 0;
+    int no_lower = 1;
+    for (size_t k = 0; k < from->c.hours; k++) {
+        more += rise(from, to, k) * energy(from, k);
+        most += rise(from, to, k) * (energy(to, k) - energy(from, k));
+        widest += 2 * (int64_t)from->c.capacity * llabs(rise(from, to, k));
+        no_lower = no_lower && rise(from, to, k) >= 0;
+    }
+    struct giqapsun_verdict verdict = checked(to->c, from->list, to->c.hours);
+    HOLDS(verdict.number == 0 && verdict.rule == 0 && verdict.profit == from->plan.profit + more);
+    int64_t lost = to->plan.profit - verdict.profit;
+    HOLDS(0 <= lost && lost <= most && most <= widest);
+    HOLDS(!no_lower || from->plan.profit <= to->plan.profit);
+    met.no_lower += from != to && no_lower;
+    met.losing += lost > 0;
+}
+
+/* Half of the rises from a row to a second one, of the input's own: one amount, an amount in one hour, none below zero,
+   or any. */
+static int32_t half_rise(struct bytes *rest, unsigned way, int32_t amount, int is_hour)
+{
+    int32_t other = within(rest, 0, (unsigned)amount);
+    switch (way) {
+    case 0:
+        return amount;
+    case 1:
+        return is_hour ? amount : 0;
+    case 2:
+        return other;
+    default:
+        return take8(rest) % 2 == 0 ? other : -other;
+    }
+}
+
+/* A case at a second row of prices and half-way: a list is found at every row or at none, and twice the profit half-way
+   is at most the sum of the two. */
+static void try_rows(struct giqapsun_case c, struct bytes *rest)
+{
+    struct row rows[3] = {{.c = c}, {.c = c}, {.c = c}};
+    unsigned way = take8(rest) % 4;
+    int32_t amount = take8(rest) % 2 == 0 ? within(rest, 0, 8) : take16(rest);
+    size_t hour = within(rest, 1, (unsigned)c.hours) - 1u;
+    for (size_t k = 0; k < c.hours; k++) {
+        int32_t half = half_rise(rest, way, amount, k == hour), price = c.prices[k];
+        if (price + 2 * half > 10000000 || price + 2 * half < -10000000)
+            half = 0;
+        rows[1].c.prices[k] = price + 2 * half;
+        rows[2].c.prices[k] = price + half;
+    }
+    for (int i = 0; i < 3; i++) {
+        search_row(rows + i);
+        HOLDS(rows[i].plan.number == rows[0].plan.number);
+    }
+    met.rows_11 += rows[0].plan.number == 11;
+    if (rows[0].plan.number != 0)
+        return;
+    met.rows++;
+    for (int i = 0; i < 9; i++)
+        carry(rows + i / 3, rows + i % 3);
+    int64_t sum = rows[0].plan.profit + rows[1].plan.profit, twice = 2 * rows[2].plan.profit;
+    HOLDS(twice <= sum);
+    met.equal_sum += twice == sum;
+    met.less += twice < sum;
+    size_t bytes = c.hours * sizeof *rows->list;
+    met.another += memcmp(rows[2].list, rows[0].list, bytes) != 0 && memcmp(rows[2].list, rows[1].list, bytes) != 0;
+}
+
 /* Puts a 16-bit number at a place, and gives the place after it. */
 static uint8_t *put16(uint8_t *at, size_t number)
 {
@@ -602,6 +705,7 @@ static void try_accepted(struct giqapsun_case c, const uint8_t *bytes, size_t n,
     HOLDS(checked(c, list, c.hours - 1).number == 9);
     HOLDS(checked(c, list, c.hours + 1).number == 9);
     try_pairs(c, best, list, plan.number == 0, rest);
+    try_rows(c, rest);
 }
 
 /* Whether a reading can be refused with this number, and a record. */

@@ -48,4 +48,4 @@ if [ $status -ne 0 ]; then
 fi
 executions=$(sed -n 's/^stat::number_of_executed_units: *//p' "$folder/log")
 echo "fuzz: $executions executions in $seconds seconds, no difference"
-grep -E '^(files|pairs|calendars|stages|weeks|curves): ' "$folder/log"
+grep -E '^(files|pairs|calendars|stages|weeks|curves|forecasts): ' "$folder/log"

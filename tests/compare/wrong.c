@@ -2,7 +2,7 @@
  * A library that is wrong in one way, named by the variable WRONG: each call gives the answer of a right library,
  * whose functions are called right_read and so on here, and one of them then does something else. What is wrong about
  * days that open and close inside a sequence stands in stages.c, about weeks and long minimum times in weeks.c, about
- * cost curves in curves.c.
+ * cost curves in curves.c, about rows of prices in rows.c.
  */
 #define _POSIX_C_SOURCE 200809L
 #include "wrong.h"
@@ -140,7 +140,7 @@ struct giqapsun_verdict giqapsun_check(struct giqapsun_case c, const uint16_t *l
         verdict.rule = 5;
     if (wrong("narrow"))
         verdict.profit = (int32_t)verdict.profit;
-    return check_wrong_weeks(c, list, check_wrong_stages(c, list, verdict));
+    return check_wrong_rows(c, list, check_wrong_weeks(c, list, check_wrong_stages(c, list, verdict)));
 }
 
 struct giqapsun_plan giqapsun_best(struct giqapsun_case c, int64_t *work, size_t n, uint16_t *outputs, size_t m)
@@ -162,7 +162,7 @@ struct giqapsun_plan giqapsun_best(struct giqapsun_case c, int64_t *work, size_t
     if (wrong("outside") && plan.number == 0)
         outputs[m] = 0;
     struct lent lent = {work, n, outputs, m};
-    return best_wrong_weeks(c, lent, best_wrong_stages(c, lent, plan));
+    return best_wrong_rows(c, lent, best_wrong_weeks(c, lent, best_wrong_stages(c, lent, plan)));
 }
 
 /* What a list of T outputs would earn, whatever rules it breaks. */

@@ -1,5 +1,5 @@
 /*
- * What the four parts of a wrong library share: the functions of a right one, the way in which this one is wrong, and
+ * What the five parts of a wrong library share: the functions of a right one, the way in which this one is wrong, and
  * what a file has at its head and at its end.
  */
 #include "giqapsun.h"
@@ -89,3 +89,7 @@ struct giqapsun_verdict check_wrong_weeks(struct giqapsun_case c, const uint16_t
                                           struct giqapsun_verdict right);
 struct giqapsun_plan best_wrong_weeks(struct giqapsun_case c, struct lent lent, struct giqapsun_plan right);
 struct giqapsun_plan by_calendar_wrong_weeks(struct giqapsun_case c, struct lent lent, struct giqapsun_plan right);
+
+/* The answers of each call that is wrong about a row of prices. */
+struct giqapsun_verdict check_wrong_rows(struct giqapsun_case c, const uint16_t *list, struct giqapsun_verdict right);
+struct giqapsun_plan best_wrong_rows(struct giqapsun_case c, struct lent lent, struct giqapsun_plan right);

@@ -7,7 +7,7 @@ wrong_library() {
     done
     mkdir -p "$1"
     objcopy "${renamed[@]}" "$GIQAPSUN_LIB_DIR/libgiqapsun.a" "$1/libgiqapsun.a"
-    for part in wrong stages weeks curves; do
+    for part in wrong stages weeks curves rows; do
         gcc -std=c99 -Wall -Wextra -Werror -O1 -fPIC -Iinclude -c "tests/compare/$part.c" -o "$1/$part.o"
         ar r "$1/libgiqapsun.a" "$1/$part.o"
     done

@@ -11,7 +11,12 @@ pub enum Costs<'a> {
     Table(&'a [i64]),
 }
 
-impl Costs<'_> {
+impl<'a> Costs<'a> {
+    /// By this table, or by F and A without one.
+    pub fn by(table: Option<&'a [i64]>) -> Costs<'a> {
+        table.map_or(Costs::Plain, Costs::Table)
+    }
+
     /// The half-mills of an hour from the outputs at its two ends: 2 A v(k) + F n, or the table's entry for n, of which
     /// that for 0 is taken off in an off-line hour.
     fn of_hour(&self, case: &Case, before: u16, output: u16) -> i64 {

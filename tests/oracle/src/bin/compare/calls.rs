@@ -14,12 +14,14 @@ use oracle::calendar::Calendar;
 use oracle::case::Case;
 use oracle::curve;
 use oracle::curves::Drawn;
+use oracle::forecast::Statement;
 use oracle::pair::{self, Choice, Outcome};
 use oracle::random::Rng;
 use std::fmt::Debug;
 use std::time::Instant;
 
-/// The calls by name; the last one is that of the independent scheduler, where it disagrees with itself.
+/// The calls by name; the last two are a statement on answers of the library, and the independent scheduler where it
+/// disagrees with itself.
 #[derive(Clone, Copy, Debug, PartialEq, Eq)]
 pub enum Name {
     Read,
@@ -32,6 +34,7 @@ pub enum Name {
     Table,
     CheckByCurve,
     BestByCurve,
+    Statement(Statement),
     Independent,
 }
 
@@ -49,6 +52,7 @@ impl Name {
             Name::Table => "table",
             Name::CheckByCurve => "check_by_curve",
             Name::BestByCurve => "best_by_curve",
+            Name::Statement(statement) => statement.word(),
             Name::Independent => "independent",
         }
     }
@@ -201,6 +205,7 @@ impl<'a> Call<'a> {
                  each {place}",
                 self.work
             ),
+            Name::Statement(statement) => format!("none: {}", statement.words()),
             Name::Independent => "none: the independent scheduler disagrees with itself".to_string(),
         }
     }
@@ -223,6 +228,9 @@ pub struct Memory {
     work: Region,
     noise: Rng,
     board: Board,
+    /// What the last search and the last check answered, as expected or not.
+    pub found: Schedule,
+    pub judged: Verdict,
     /// Nanoseconds spent in the library.
     pub library_time: u64,
 }
@@ -240,6 +248,8 @@ impl Memory {
             work: Region::new(5),
             noise: Rng::for_index(0, 0),
             board,
+            found: Schedule { number: 0, profit: 0, list: Vec::new() },
+            judged: Verdict { number: 0, hour: 0, rule: 0, profit: 0 },
             library_time: 0,
         }
     }
@@ -289,7 +299,8 @@ impl Memory {
             // SAFETY: pointer and count are those of the lent slice.
             let raw = self.made(&call, || unsafe { giqapsun_check(*case, lent.pointer(), lent.count()) });
             let (number, hour, rule, profit) = (raw.number, raw.hour, raw.rule, raw.profit);
-            same(&call, Verdict { number, hour, rule, profit }, expected)?;
+            self.judged = Verdict { number, hour, rule, profit };
+            same(&call, self.judged, expected)?;
             as_wanted(&call, "the list", &lent, &[])?;
         }
         Ok(expected)
@@ -379,8 +390,8 @@ impl Memory {
         let noise: Vec<u16> = (0..call.lent).map(|_| self.noise.bits() as u16).collect();
         let list = self.outputs.lend(&noise, call.place, &mut self.noise);
         let raw = self.made(call, || make(&work, &list));
-        let given = answer_with_outputs(raw.number, raw.profit, list.now(), case.t);
-        same(call, given, expected.clone())?;
+        self.found = answer_with_outputs(raw.number, raw.profit, list.now(), case.t);
+        same(call, &self.found, expected)?;
         as_wanted(call, "the outputs", &list, &expected.list)?;
         as_wanted(call, "the working numbers", &work, &vec![0; expected.zeroed_numbers(case)])
     }
@@ -454,7 +465,8 @@ impl Memory {
                 )
             });
             let (number, hour, rule, profit) = (raw.number, raw.hour, raw.rule, raw.profit);
-            same(&call, Verdict { number, hour, rule, profit }, expected.answer)?;
+            self.judged = Verdict { number, hour, rule, profit };
+            same(&call, self.judged, expected.answer)?;
             as_wanted(&call, "the list", &lent, &[])?;
             as_wanted(&call, "the table", &table, &expected.table)?;
             as_wanted(&call, "the case", &record, &[])?;

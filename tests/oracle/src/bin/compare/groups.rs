@@ -1,11 +1,12 @@
 //! The groups of comparisons. Each index of a group makes its own case from the seed.
 
 use crate::calls::{Pair, Windows};
+use crate::forecasts::{forecasts, known_forecast, one_forecast, Way};
 use crate::kinds::records::Asked;
 use crate::kinds::Family;
 use crate::report::Named;
 use crate::run::Run;
-use crate::wishes::named;
+use crate::wishes::{self, named};
 use oracle::answers::{self, Schedule, Verdict};
 use oracle::best::{by_commitment, every_list, every_list_by, Plan};
 use oracle::by_curve::{self, Lent};
@@ -21,6 +22,7 @@ use oracle::file;
 use oracle::known_calendars::{self, known_calendars};
 use oracle::known_curves::{self, known_entries, known_faults};
 use oracle::known_files::{self, known_files};
+use oracle::known_forecasts;
 use oracle::known_pairs::{self, known_pairs};
 use oracle::known_prices::{self, known_prices};
 use oracle::known_stages::{self, known_stages};
@@ -61,7 +63,7 @@ impl Group {
 }
 
 /// All groups in the order in which they run.
-pub const GROUPS: [Group; 35] = [
+pub const GROUPS: [Group; 37] = [
     group("known-days", 13, known_day, "the known days, all calls, every list checked"),
     group("known-prices", known_prices::COUNT, known_price, "known days below zero and at the limits"),
     group("source-day", 4, source_day, "the source's day, and its rows of 48, 96 and 168 hours"),
@@ -142,6 +144,9 @@ pub const GROUPS: [Group; 35] = [
     )
     .of_every(Family::CurveDay),
     group("curve-full-days", 240, curve_full_days, "days up to 400 MW by a curve, by the dynamic programme"),
+    group("known-forecasts", known_forecasts::COUNT, known_forecast, "known rows of prices and half-way"),
+    group("forecasts", 20_000, forecasts, "two rows of prices of a case and half-way, every statement")
+        .of_every(Family::Forecast),
 ];
 
 /// Most lists of a unit that are all put through the check.
@@ -849,18 +854,22 @@ fn one_case_by_curve(run: &mut Run, case: &Case, drawn: DrawnCurve, list: Option
 }
 
 /// Runs one file again: reading, and if it is accepted, all calls, lengths and many lists, those that are named too; or
-/// the case by a curve.
-pub fn one_file(run: &mut Run, bytes: &[u8], lists: &[Named], curve: Option<DrawnCurve>) {
+/// the case by a curve or by a calendar; or the case, by one of them or by none, at its prices and at a second row.
+pub fn one_file(run: &mut Run, bytes: &[u8], lists: &[Named], curve: Option<DrawnCurve>, row: &[i32]) {
     run.read(bytes);
     let Ok(case) = file::read(bytes) else {
         return;
     };
+    let calendar = wishes::calendar(lists);
+    if !row.is_empty() {
+        let by_calendar = || calendar.map_or(Way::Plain, |it| Way::Calendar(Windows::new(&it, None)));
+        return one_forecast(run, &case, curve.map_or_else(by_calendar, Way::Curve), row);
+    }
     if let Some(drawn) = curve {
         return one_case_by_curve(run, &case, drawn, named(lists, "list"));
     }
-    if let Some(&[first, hours]) = named(lists, "day") {
-        let [on, off] = ["on", "off"].map(|name| named(lists, name).unwrap_or_default());
-        return one_calendar(run, &case, &Calendar { on, off, first, hours });
+    if let Some(calendar) = calendar {
+        return one_calendar(run, &case, &calendar);
     }
     let plan = best_list(&case);
     let count = (u64::from(case.capacity) + 2).checked_pow(case.t as u32);

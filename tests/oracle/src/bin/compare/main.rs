@@ -4,11 +4,13 @@
 //! compare --case FILE [--list OUTPUT,OUTPUT.. [--second OUTPUT,OUTPUT..]] [--limit SECONDS]
 //! compare --case FILE --day FIRST,HOURS [--on FIRST,LENGTH..] [--off FIRST,LENGTH..] [--limit SECONDS]
 //! compare [--case FILE [--list OUTPUT,OUTPUT..]] --curve KIND,A,B,C [--limit SECONDS]
+//! compare --case FILE --row PRICE,PRICE.. [--curve KIND,A,B,C | --day FIRST,HOURS ..] [--limit SECONDS]
 //! compare --groups
 
 mod board;
 mod boundary;
 mod calls;
+mod forecasts;
 mod groups;
 mod guard;
 mod kinds;
@@ -84,7 +86,7 @@ impl Series<'_> {
         let (source, words) =
             ((self.source)(board.index()), format!("  given     {how}\n  expected  an answer"));
         match board.call() {
-            Some(call) => show(&source, &call, &words),
+            Some(call) => show(&source, &call, &words, &[]),
             None => show_outside(&source, how),
         }
     }
@@ -116,14 +118,14 @@ impl Series<'_> {
 
 /// Runs one file again.
 fn run_case(wishes: &Wishes, path: &std::path::Path, bytes: &[u8]) -> (u64, u64) {
-    let source = |_| Source::of_file(path, bytes, &wishes.lists, wishes.curve);
+    let source = |_| Source::of_file(path, bytes, &wishes.lists, wishes.curve, &wishes.row);
     Series {
         name: "case",
         seed: wishes.seed,
         indices: 0..1,
         limit: wishes.limit,
         every_kind: None,
-        compare: &|run, _| one_file(run, bytes, &wishes.lists, wishes.curve),
+        compare: &|run, _| one_file(run, bytes, &wishes.lists, wishes.curve, &wishes.row),
         source: &source,
     }
     .run_and_sum_up()

@@ -32,9 +32,9 @@ impl Source {
         Source { again, name: format!("{group}-{index}"), given: None }
     }
 
-    /// A file, and the lists and the curve that it is tried with.
-    pub fn of_file(path: &Path, bytes: &[u8], lists: &[Named], curve: Option<Drawn>) -> Source {
-        let again = format!("--case {}{}{}", quoted(path), options(lists), curve_option(curve));
+    /// A file, and the lists, the curve and the second row that it is tried with.
+    pub fn of_file(path: &Path, bytes: &[u8], lists: &[Named], curve: Option<Drawn>, row: &[i32]) -> Source {
+        let again = format!("--case {}{}", quoted(path), options(lists, curve, row));
         Source { again, name: "case".to_string(), given: Some((path.to_path_buf(), bytes.to_vec())) }
     }
 
@@ -51,8 +51,8 @@ pub fn show_outside(source: &Source, how: &str) {
     println!("  again     {} {}", program(), source.again);
 }
 
-/// Prints one block.
-pub fn show(source: &Source, call: &Call, difference: &str) {
+/// Prints one block, with the second row of prices where there is one.
+pub fn show(source: &Source, call: &Call, difference: &str, row: &[i32]) {
     println!("DIFFERENCE {}: {}", source.name, call.name.word());
     println!("  call      {}", call.words());
     println!("{difference}");
@@ -65,10 +65,14 @@ pub fn show(source: &Source, call: &Call, difference: &str) {
     if let Some((kind, curve)) = curve {
         println!("  curve     kind {kind}, a {:?}, b {:?}, c {:?}", curve.a, curve.b, curve.c);
     }
+    if let (Some(case), false) = (call.input.case(), row.is_empty()) {
+        println!("  prices    {}", numbers(&case.prices[..row.len()]));
+        println!("  row       {}", numbers(row));
+    }
     println!("  again     {} {}", program(), source.again);
     let few = lists.iter().all(|(_, list)| list.len() <= MOST_LISTED);
     if let (Some(path), None, true) = (case, &source.given, few) {
-        let options = options(&lists) + &curve_option(curve);
+        let options = options(&lists, curve, row);
         println!("  alone     {} --case {}{options}", program(), quoted(&path));
     }
     if let Input::Curve(_) = call.input {
@@ -128,9 +132,11 @@ fn saved(name: &str, bytes: &[u8]) -> Option<PathBuf> {
     Some(path)
 }
 
-/// Lists as words of the command line.
-fn options(lists: &[Named]) -> String {
-    lists.iter().map(|(name, list)| format!(" --{name} {}", numbers(list))).collect()
+/// Lists, a curve and a second row as words of the command line.
+fn options(lists: &[Named], curve: Option<Drawn>, row: &[i32]) -> String {
+    let lists: String = lists.iter().map(|(name, list)| format!(" --{name} {}", numbers(list))).collect();
+    let row = if row.is_empty() { String::new() } else { format!(" --row {}", numbers(row)) };
+    lists + &curve_option(curve) + &row
 }
 
 /// A curve as words of the command line: its kind, and the bits of each coefficient; nothing where there is none.
@@ -151,10 +157,10 @@ fn printed(list: &[u16]) -> String {
 }
 
 /// Numbers with commas between; `none` for a list of none.
-fn numbers(list: &[u16]) -> String {
+fn numbers<N: ToString>(list: &[N]) -> String {
     match list.len() {
         0 => "none".to_string(),
-        _ => list.iter().map(u16::to_string).collect::<Vec<_>>().join(","),
+        _ => list.iter().map(N::to_string).collect::<Vec<_>>().join(","),
     }
 }
 

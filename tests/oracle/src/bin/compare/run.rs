@@ -58,11 +58,16 @@ impl Run {
 
     /// Counts a comparison, and prints a difference.
     pub fn note(&mut self, result: Result<(), Difference>) {
+        self.note_row(result, &[]);
+    }
+
+    /// The same of the answers at the case's prices, at a second row and half-way.
+    pub fn note_row(&mut self, result: Result<(), Difference>, row: &[i32]) {
         match result {
             Ok(()) => self.tally.passed += 1,
             Err(difference) => {
                 self.tally.failed += 1;
-                self.tell(&difference);
+                self.tell(&difference, row);
             }
         }
         self.tally.library_time = self.memory.library_time;
@@ -70,7 +75,7 @@ impl Run {
     }
 
     /// Prints a difference, once for each case and call, and the first of the group only.
-    fn tell(&mut self, difference: &Difference) {
+    fn tell(&mut self, difference: &Difference, row: &[i32]) {
         let case = match difference.call.input {
             Input::File(bytes) => format!("{bytes:?}"),
             input => format!("{:?} {:?}", input.case(), input.curve()),
@@ -78,7 +83,7 @@ impl Run {
         let about = (difference.call.name, case);
         if self.tally.shown < MOST_SHOWN && !self.told.contains(&about) {
             self.tally.shown += 1;
-            show(&self.source, &difference.call, &difference.words);
+            show(&self.source, &difference.call, &difference.words, row);
             self.told.push(about);
         }
     }

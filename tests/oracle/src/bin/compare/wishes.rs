@@ -2,9 +2,15 @@
 
 use crate::groups::{Group, GROUPS};
 use crate::report::Named;
-use oracle::curve::Curve;
+use oracle::calendar::Calendar;
+use oracle::case::Case;
+use oracle::curve::{faults, Curve};
 use oracle::curves::Drawn;
+use oracle::file;
+use oracle::forecast::{at_row, half_way};
+use oracle::refusals;
 use std::path::PathBuf;
+use std::str::FromStr;
 use std::time::Duration;
 
 /// How to call this program.
@@ -13,11 +19,13 @@ usage: compare [--seed N] [--groups NAME,NAME.. [--index N]] [--limit SECONDS]
        compare --case FILE [--list OUTPUT,OUTPUT.. [--second OUTPUT,OUTPUT..]] [--limit SECONDS]
        compare --case FILE --day FIRST,HOURS [--on FIRST,LENGTH..] [--off FIRST,LENGTH..] [--limit SECONDS]
        compare [--case FILE [--list OUTPUT,OUTPUT..]] --curve KIND,A,B,C [--limit SECONDS]
+       compare --case FILE --row PRICE,PRICE.. [--curve KIND,A,B,C | --day FIRST,HOURS ..] [--limit SECONDS]
        compare --groups
 The second runs one case, with a list to check if one is named, and a second one to compare it with; the third one
 case by a calendar; the fourth a cost curve, and one case by it, each coefficient a number or its bits after 0x; the
-last lists the groups. A call that takes longer than the limit, 10 s if none is named, is a difference. Status 1:
-something differs, or a kind of pairs, files, records, days, calendars, lists, lengths or curves has not come up.";
+fifth one case at its prices, at a second row and half-way; the last lists the groups. A call that takes longer than the
+limit, 10 s if none is named, is a difference. Status 1: something differs, or a kind of pairs, files, records, days,
+calendars, lists, lengths, curves or forecasts has not come up.";
 
 /// Lists that may be named on the command line.
 const LISTS: [&str; 5] = ["list", "second", "on", "off", "day"];
@@ -42,11 +50,22 @@ pub struct Wishes {
     pub lists: Vec<Named>,
     /// A cost curve.
     pub curve: Option<Drawn>,
+    /// A second row of prices; empty if none was named.
+    pub row: Vec<i32>,
 }
 
 /// The list of this name, if there is one.
 pub fn named<'a>(lists: &'a [Named], wanted: &str) -> Option<&'a [u16]> {
     lists.iter().find(|(name, _)| *name == wanted).map(|(_, list)| &list[..])
+}
+
+/// The calendar whose day is named, if one is.
+pub fn calendar(lists: &[Named]) -> Option<Calendar<'_>> {
+    let &[first, hours] = named(lists, "day")? else {
+        return None;
+    };
+    let [on, off] = ["on", "off"].map(|name| named(lists, name).unwrap_or_default());
+    Some(Calendar { on, off, first, hours })
 }
 
 /// Reads the command line; what is wrong with it, in a line.
@@ -60,6 +79,7 @@ pub fn wishes(words: impl Iterator<Item = String>) -> Result<Wishes, String> {
         case: None,
         lists: Vec::new(),
         curve: None,
+        row: Vec::new(),
     };
     let mut words = words.peekable();
     while let Some(word) = words.next() {
@@ -72,10 +92,12 @@ pub fn wishes(words: impl Iterator<Item = String>) -> Result<Wishes, String> {
             "--limit" => wishes.limit = Duration::from_secs(number(&word, &value)?.max(1)),
             "--case" => wishes.case = Some(contents(&value)?),
             "--curve" => wishes.curve = Some(curve(&value)?),
+            "--row" => wishes.row = numbers(&word, &value)?,
             _ => wishes.lists.push((list_name(&word)?, numbers(&word, &value)?)),
         }
     }
     tested(&wishes.lists)?;
+    tested_row(&wishes)?;
     match wishes.index {
         Some(index) if wishes.groups.iter().any(|&place| index >= GROUPS[place].count) => {
             Err(format!("not every group that is asked for has an index {index}"))
@@ -126,11 +148,12 @@ fn list_name(option: &str) -> Result<&'static str, String> {
     name.ok_or(format!("{option} is no option"))
 }
 
-/// Numbers of 16 bits with commas between; `none` is a list of none.
-fn numbers(option: &str, text: &str) -> Result<Vec<u16>, String> {
+/// Numbers with commas between; `none` is a list of none.
+fn numbers<N: FromStr>(option: &str, text: &str) -> Result<Vec<N>, String> {
     let words = text.split(',').filter(|_| text != "none");
+    let bits = 8 * std::mem::size_of::<N>();
     words
-        .map(|word| word.trim().parse().map_err(|_| format!("{option}: '{word}' is no 16-bit number")))
+        .map(|word| word.trim().parse().map_err(|_| format!("{option}: '{word}' is no {bits}-bit number")))
         .collect()
 }
 
@@ -146,6 +169,26 @@ fn tested(lists: &[Named]) -> Result<(), String> {
     match named(lists, "day") {
         None | Some([_, _]) => Ok(()),
         Some(_) => Err("--day is a first hour and a number of hours".to_string()),
+    }
+}
+
+/// Whether a second row that was named is one for the case, with a row half-way, and the case is accepted by the curve
+/// or the calendar that was named too.
+fn tested_row(wishes: &Wishes) -> Result<(), String> {
+    let is_accepted = |case: &Case| {
+        let by_curve = wishes.curve.is_none_or(|(kind, curve)| faults(kind, &curve).is_ok());
+        by_curve && calendar(&wishes.lists).is_none_or(|calendar| calendar.filled(case).is_ok())
+    };
+    let is_row_of = |case: &Case| {
+        wishes.row.len() == case.t
+            && refusals::record(&at_row(case, &wishes.row)).is_ok()
+            && half_way(case, &wishes.row).is_some()
+    };
+    let read = wishes.case.as_ref().and_then(|(_, bytes)| file::read(bytes).ok());
+    match read {
+        _ if wishes.row.is_empty() => Ok(()),
+        Some(case) if is_row_of(&case) && is_accepted(&case) => Ok(()),
+        _ => Err("--row is T prices with even sums for a --case that is accepted".to_string()),
     }
 }
 

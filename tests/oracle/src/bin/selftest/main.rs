@@ -3,6 +3,7 @@
 mod calendars;
 mod curves;
 mod files;
+mod forecasts;
 mod pairs;
 mod searches;
 mod stages;
@@ -258,6 +259,9 @@ fn main() -> ExitCode {
     group("curves with faults", &mut total, curves::refused);
     group("searches by a curve", &mut total, curves::searches);
     group("the curve of F and A", &mut total, plain(curves::plain));
+    group("known forecasts", &mut total, plain(forecasts::known));
+    group("forecasts that are changed", &mut total, plain(forecasts::changed));
+    group("statements on forecasts, every list tried", &mut total, forecasts::small);
     println!("{} passed, {} failed", total.passed, total.failed);
     ExitCode::from(u8::from(total.failed > 0))
 }

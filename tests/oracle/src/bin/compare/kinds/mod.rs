@@ -1,12 +1,13 @@
 //! The kinds of what a comparison meets, each with its test, to be counted: pairs of lists, files, records,
 //! days, calendars, days inside a sequence and lists of such days, weeks, days of long minimum times and
-//! lists of such days, lent memory, cost curves, and days and lists by a curve.
+//! lists of such days, lent memory, cost curves, days and lists by a curve, and price forecasts.
 
 pub mod calendars;
 pub mod curve_days;
 pub mod curves;
 pub mod days;
 pub mod files;
+pub mod forecasts;
 pub mod lent;
 pub mod lists;
 pub mod locked_lists;
@@ -43,10 +44,11 @@ pub enum Family {
     Lent,
     Curve,
     CurveDay,
+    Forecast,
 }
 
 /// All of them, in the order in which they are printed.
-pub const FAMILIES: [Family; 13] = [
+pub const FAMILIES: [Family; 14] = [
     Family::Pair,
     Family::File,
     Family::Record,
@@ -60,6 +62,7 @@ pub const FAMILIES: [Family; 13] = [
     Family::Lent,
     Family::Curve,
     Family::CurveDay,
+    Family::Forecast,
 ];
 
 impl Family {
@@ -79,6 +82,7 @@ impl Family {
             Family::Lent => "length",
             Family::Curve => "curve",
             Family::CurveDay => "curve day",
+            Family::Forecast => "forecast",
         }
     }
 }
@@ -99,6 +103,7 @@ pub struct Counts {
     lent: [u64; lent::KINDS.len()],
     curves: [u64; curves::KINDS.len()],
     curve_days: [u64; curve_days::KINDS.len()],
+    forecasts: [u64; forecasts::KINDS.len()],
 }
 
 impl Default for Counts {
@@ -117,6 +122,7 @@ impl Default for Counts {
             lent: [0; lent::KINDS.len()],
             curves: [0; curves::KINDS.len()],
             curve_days: [0; curve_days::KINDS.len()],
+            forecasts: [0; forecasts::KINDS.len()],
         }
     }
 }
@@ -183,6 +189,11 @@ impl Counts {
         add(&curve_days::KINDS, met, &mut self.curve_days);
     }
 
+    /// Counts two rows of prices for one case.
+    pub fn forecast(&mut self, met: &forecasts::Met) {
+        add(&forecasts::KINDS, met, &mut self.forecasts);
+    }
+
     /// Each kind in words, with how often it came up.
     fn of(&self, family: Family) -> Vec<(&'static str, u64)> {
         match family {
@@ -199,6 +210,7 @@ impl Counts {
             Family::Lent => beside(&lent::KINDS, &self.lent),
             Family::Curve => beside(&curves::KINDS, &self.curves),
             Family::CurveDay => beside(&curve_days::KINDS, &self.curve_days),
+            Family::Forecast => beside(&forecasts::KINDS, &self.forecasts),
         }
     }
 
