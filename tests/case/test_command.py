@@ -21,10 +21,14 @@ from tool import CASE_7, CASES, PRICES, SOURCE, SOURCE_LIST, TOOL, ToolTest, giq
 
 MAKE = ("make", str(CASES / "case7.toml"), str(CASES / "case7.csv"))
 
+# a row of prices of the source's day
+ROW = CASES / "source.csv"
+
 # each command, with a file to follow
 READING = (
     ("show",), ("best",), ("make", "u.toml"), ("check", "d.case"), ("better", "d.case", "l.csv"),
     ("best", "d.case", "--first", "0", "--calendar"), ("best", "d.case", "--curve"), ("curve",),
+    ("forecast", "d.case", "p.csv"), ("forecast", "d.case", "p.csv", "p.csv", "--curve"),
 )
 
 
@@ -45,6 +49,9 @@ class Words(ToolTest):
             ["better", "d.case", "a.csv", "b.csv", "c.csv"], ["better", "d.case", "a.csv", "b.csv", "--json", "--csv"],
             ["best", "-", "--calendar", "-", "--first", "0"], ["curve"], ["best", "-", "--curve", "-"],
             ["check", "d.case", "-", "--curve", "-"], ["best", "d.case", "--calendar", "y.csv", "--curve", "c.toml"],
+            ["forecast"], ["forecast", "d.case", "f.csv"], ["forecast", "d.case", "f.csv", "a.csv", "b.csv"],
+            ["forecast", "-", "f.csv", "-"], ["forecast", "d.case", "f.csv", "a.csv", "--json", "--csv"],
+            ["forecast", "d.case", "f.csv", "a.csv", "--calendar", "y.csv"],
         ):
             status, printed, message = self.run_tool(*words)
             self.assertEqual((status, printed), (2, b""))
@@ -54,7 +61,7 @@ class Words(ToolTest):
         self.assertEqual(self.run_tool("--version"), (0, f"case {giqapsun.__version__}\n".encode(), ""))
 
     def test_help(self):
-        for words in ((), ("make",), ("show",), ("best",), ("check",), ("better",), ("curve",)):
+        for words in ((), ("make",), ("show",), ("best",), ("check",), ("better",), ("forecast",), ("curve",)):
             text = " ".join(self.answered(*words, "--help").decode().split())
             self.assertIn("Exit status: 0 done, and for check and better: a list passes; 1 no list passes", text)
             self.assertIn("2 refused, bad input", text)
@@ -80,6 +87,7 @@ class Inputs(ToolTest):
         self.file("d.case", CASE_7)
         os.symlink("nowhere", self.folder / "dangling")
         self.file("u.toml", unit())
+        self.file("p.csv", PRICES)
         self.file("l.csv", list_text([2, 1, 0]))
         for words in READING:
             self.at_fault("folder: Is a directory", *words, "folder")
@@ -92,6 +100,7 @@ class Inputs(ToolTest):
         garbage = bytes((37 * i * i + 11) % 256 for i in range(500))
         self.file("d.case", CASE_7)
         self.file("u.toml", unit())
+        self.file("p.csv", PRICES)
         self.file("l.csv", list_text([2, 1, 0]))
         for words in READING:
             for data in (garbage, b"\0" * 100, b"\n\n\n", b"", SOURCE):
@@ -197,7 +206,7 @@ class StandardOutput(ToolTest):
         self.file("l.csv", list_text(SOURCE_LIST))
         for words in (
             "show d.case", "show d.case --json", "best d.case", f"make {MAKE[1]} {MAKE[2]}", "check d.case l.csv",
-            "better d.case l.csv l.csv", "better d.case l.csv l.csv --json",
+            "better d.case l.csv l.csv", "better d.case l.csv l.csv --json", f"forecast d.case {ROW} {ROW}",
         ):
             command = f"(sleep 0.1; CASE {words}; echo $? >status) | true"
             self.assertEqual(self.shell(command), (0, ""))
@@ -209,8 +218,8 @@ class StandardOutput(ToolTest):
         self.file("l.csv", list_text(SOURCE_LIST))
         full = (2, "case: standard output: No space left on device\n")
         for words in (
-            "show d.case", "best d.case --csv", f"make {MAKE[1]} {MAKE[2]}", "better d.case l.csv l.csv", "--help",
-            "--version",
+            "show d.case", "best d.case --csv", f"make {MAKE[1]} {MAKE[2]}", "better d.case l.csv l.csv",
+            f"forecast d.case {ROW} {ROW} --json", "--help", "--version",
         ):
             self.assertEqual(self.shell(f"CASE {words} >/dev/full"), full)
         self.assertEqual(self.shell("CASE show none 2>/dev/full"), (2, ""))

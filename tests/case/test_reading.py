@@ -258,12 +258,16 @@ class NotBuilt(ToolTest):
         status, data, _ = self.run_copy("make", "n.toml", self.file("p.csv", PRICES))
         self.assertEqual((status, data), (0, file_of(initial=1, elapsed=4, downstage=2)))
 
-    def test_check_and_better(self):
-        """The verdict and the choice are the library's alone."""
+    def test_check_better_and_forecast(self):
+        """The verdict and the choice are the library's alone, and so is a plan that is checked."""
         self.file("d.case", CASE_7)
         self.file("l.csv", list_text([2, 1, 0]))
+        self.file("p.csv", PRICES)
         advice = "case: libgiqapsun.so is not built: run bindings/build.sh, or set GIQAPSUN_LIBRARY\n"
-        for words in (("check", "d.case", "l.csv"), ("better", "d.case", "l.csv", "l.csv")):
+        for words in (
+            ("check", "d.case", "l.csv"), ("better", "d.case", "l.csv", "l.csv"),
+            ("forecast", "d.case", "p.csv", "p.csv"),
+        ):
             self.assertEqual(self.run_copy(*words), (2, b"", advice))
 
     def test_calendar(self):

@@ -12,7 +12,7 @@ from unittest import mock
 from test_best import program
 from tool import (
     BOILER, CASE_7, CASES, EVENING, FAKE, ROOT, SOURCE, SVG, WEEK, PictureTest, ToolTest, file_of, giqapsun, list_text,
-    random_opening, small, texts,
+    random_opening, row_text, small, texts,
 )
 
 import best
@@ -26,6 +26,11 @@ def source(hours, **changes):
     case = giqapsun.read(SOURCE)
     prices = (case.prices * 7)[:hours]
     return giqapsun.write(replace(case, **{"prices": prices, "orders": [0] * hours, **changes}))
+
+
+def too_low():
+    """The prices of the week with evenings that are forecast too low."""
+    return row_text(price - 8000 * (k % 24 > 17) for k, price in enumerate(giqapsun.read(WEEK).prices))
 
 
 class Tables(ToolTest):
@@ -149,6 +154,20 @@ class Tables(ToolTest):
         status, printed, _ = self.run_tool(*words)
         self.assertEqual(status, 1)
         self.assertIn("\nday 1\n", printed.decode())
+
+    def test_forecast(self):
+        """What each day earns by the plan and by the best list."""
+        words = ("forecast", self.file("d.case", WEEK), self.file("f.csv", too_low()), str(CASES / "week.csv"))
+        lines = self.answered(*words).decode().splitlines()
+        self.assertEqual(lines[1].split()[:2], ["hour", "day-hour"])
+        self.assertEqual(len({len(line) for line in lines[:177]}), 1)
+        answer = json.loads(self.answered(*words, "--json"))
+        days = [line.replace(",", "").split() for line in lines if line.startswith("day ")]
+        for place, cell in (("plan", 2), ("best", 3)):
+            earned = [hour[f"{place}_earnings_half_mills"] for hour in answer["hours"]]
+            sums = [f"{sum(day.of(earned)) / 2000:.4f}" for day in days_of(168)]
+            self.assertEqual([day[cell] for day in days], sums)
+        self.assertEqual((answer["best_profit_half_mills"], answer["same_list"]), (301_939_484, False))
 
     def test_next(self):
         """The unit of the next week, with what the week's list leaves."""
@@ -347,6 +366,26 @@ class Pictures(PictureTest):
         differ = self.kinds(picture, "rect", "differs")
         self.assertEqual(len(differ), sum(output == 294 for output in outputs))
         self.assertTrue(self.titles(picture)[167].startswith("hour 168, day 7 hour 24, 25.850 $/MWh: 144 MW in the"))
+
+    def test_two_rows_of_prices(self):
+        """Of each day the least and the most price in either row; nothing reaches over another where hours stand
+        undivided, as wide as prices can be, or in a week."""
+        self.file("d.case", WEEK)
+        self.answered("forecast", "d.case", self.file("f.csv", too_low()), str(CASES / "week.csv"), "--plot", "p.svg")
+        picture = self.drawn()
+        self.readable(picture)
+        self.coloured(picture)
+        self.assertEqual(self.notes(picture)[0], [
+            "day 1", "forecast", "least 17.850", "most 48.950", "actual", "least 19.668", "most 48.950",
+        ])
+        self.assertEqual(len(self.kinds(picture, "rect", "square")), 168 // 6 + 1)
+        for hours in (1, 24, 25, 48, 49, 97, 168):
+            with self.subTest(hours=hours):
+                self.file("d.case", source(hours))
+                self.file("f.csv", row_text((-(10**7), 10**7, 45_000)[k * k % 7 % 3] for k in range(hours)))
+                self.file("a.csv", row_text((45_000, -(10**7), 10**7)[k * k % 7 % 3] for k in range(hours)))
+                self.answered("forecast", "d.case", "f.csv", "a.csv", "--plot", "p.svg")
+                self.readable(self.drawn())
 
     def test_closing(self):
         """The stages at the ends of a week stand below its outputs."""

@@ -114,6 +114,11 @@ def list_text(outputs):
     return "hour,output\n" + "".join(f"{k},{output}\n" for k, output in enumerate(outputs, 1))
 
 
+def row_text(prices):
+    """The file of a row of prices, in mills."""
+    return "hour,price_mills\n" + "".join(f"{k},{price}\n" for k, price in enumerate(prices, 1))
+
+
 def random_opening(chance, case):
     """The case with an opening that 7 allows: off-line, on-line, or inside a sequence if there is one to be in."""
     sequences = [name for name, outputs in (("upstage", case.rise), ("downstage", case.fall)) if len(outputs) > 1]

@@ -16,7 +16,7 @@ from faults import Fault, Refused
 from hours import agree, earnings, energies
 from layout import case_of
 from module import giqapsun
-from money import dollars_of_half_mills, dollars_of_mills, machine, megawatt_hours, widest
+from money import amount_fields, dollars_of_half_mills, dollars_of_mills, machine, megawatt_hours, widest
 from reading import BY, Reading, built, explained, read_case
 from tables import csv_of, json_of
 from words import ORDERS, counted, ordered_hours
@@ -80,18 +80,23 @@ def best_day(file, data, calendar=None, curve=None):
     curve."""
     if calendar is not None:
         return _by_calendar(file, data, calendar)
-    if curve is not None:
-        return _by_curve(file, data, curve)
     runs = program()
-    if runs is not None:
+    if curve is not None:
+        _no_program("curve")
+    elif runs is not None:
         return _answered(runs, file, data)
-    reading = read_case(file, data)
+    return found(file, read_case(file, data), curve)
+
+
+def found(file, reading, curve=None):
+    """The best day of a case by the library, with the costs of a curve if there is one; `file` is the case's. The hours
+    earn its profit, or it is a fault."""
     try:
-        plan = giqapsun.best(reading.case)
+        plan = giqapsun.best_by_curve(reading.case, curve.curve) if curve else giqapsun.best(reading.case)
     except giqapsun.Refusal as refused:
         details = contradiction(reading.case) if refused.number == 11 else ()
         raise Refused(file, refused.number, details) from None
-    return _day(reading, plan.outputs, plan.profit, "library")
+    return _day(reading, plan.outputs, plan.profit, "library", curve)
 
 
 def _no_program(what):
@@ -99,18 +104,6 @@ def _no_program(what):
     runs = os.environ.get("GIQAPSUN_BEST_DAY")
     if runs:
         raise Fault(runs, None, None, f"a program takes no {what}; without GIQAPSUN_BEST_DAY the library serves")
-
-
-def _by_curve(file, data, curve):
-    """The best day with the costs of a curve. The hours earn its profit by the curve's table, or it is a fault."""
-    _no_program("curve")
-    reading = read_case(file, data)
-    try:
-        plan = giqapsun.best_by_curve(reading.case, curve.curve)
-    except giqapsun.Refusal as refused:
-        details = contradiction(reading.case) if refused.number == 11 else ()
-        raise Refused(file, refused.number, details) from None
-    return replace(_day(reading, plan.outputs, plan.profit, "library", curve.table), curve=curve)
 
 
 def _by_calendar(file, data, calendar):
@@ -228,10 +221,11 @@ def _numbers(runs, lines, place, form):
     return [int(number) for number in match.groups()]
 
 
-def _day(reading, outputs, profit, found_by, table=None):
-    earned = earnings(reading.case, outputs, table)
-    agree(found_by, 1, profit, earned)
-    return Day(reading, outputs, energies(reading.case, outputs), earned, profit, found_by)
+def _day(reading, outputs, profit, found_by, curve=None):
+    earned = earnings(reading.case, outputs, curve.table if curve else None)
+    file, line = ("the library", None) if found_by == "library" else (found_by, 1)
+    agree(file, line, profit, earned)
+    return Day(reading, outputs, energies(reading.case, outputs), earned, profit, found_by, curve=curve)
 
 
 def best_text(day):
@@ -274,8 +268,7 @@ def best_json(day):
     calendar = {} if day.calendar is None else {"calendar": day.calendar.fields()}
     curve = {} if day.curve is None else {"curve": day.curve.fields()}
     return json_of({
-        "profit_half_mills": day.profit,
-        "profit_dollars": machine(dollars_of_half_mills(day.profit)),
+        **amount_fields("profit", day.profit),
         "energy_half_mwh": sum(day.energies),
         "stop_after_day": stop_after(day.reading.case, day.outputs),
         "opening_after": asdict(giqapsun.opening_after(day.reading.case, day.outputs)),

@@ -5,7 +5,7 @@ from dataclasses import dataclass
 from curves import Curve
 from ends import closing, stop_after
 from faults import Refused
-from money import dollars_of_half_mills, machine
+from money import dollars_of_half_mills, in_words, machine
 from module import giqapsun
 from reading import BY, Reading
 from rules import breach
@@ -44,9 +44,8 @@ class Checked:
         """The verdict for a reader; a breach in words has a line of its own, and so has a stop after the day."""
         verdict = self.verdict
         if self.passes:
-            earns = f"passes: earns ${dollars_of_half_mills(verdict.profit)} ({verdict.profit} half-mills)"
             by_curve = [self.curve.line()] if self.curve else []
-            return [earns, *closing(self.reading.case, self.outputs), *by_curve]
+            return [f"passes: earns {in_words(verdict.profit)}", *closing(self.reading.case, self.outputs), *by_curve]
         return [f"breaks rule {verdict.rule} at hour {verdict.hour}: {verdict.text}", self.breach()]
 
     def fields(self):
@@ -71,13 +70,13 @@ def checked(reading, file, outputs, curve=None):
             return Checked(reading, outputs, giqapsun.check_by_curve(reading.case, curve.curve, outputs), curve)
         return Checked(reading, outputs, giqapsun.check(reading.case, outputs))
     except giqapsun.Refusal as refused:
-        details = [other_length(reading.case, outputs)] if refused.number == 9 else ()
+        details = [f"outputs: {other_length(reading.case, outputs)}"] if refused.number == 9 else ()
         raise Refused(file, refused.number, details) from None
 
 
-def other_length(case, outputs):
-    """What is wrong with a list that is not of T outputs."""
-    return f"outputs: {len(outputs)}, {len(case.prices)} (the hours of the case) needed"
+def other_length(case, listed):
+    """What is wrong with the outputs or the prices of a file that are not T."""
+    return f"{len(listed)}, {len(case.prices)} (the hours of the case) needed"
 
 
 def checked_text(checked_list):

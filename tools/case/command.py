@@ -1,5 +1,5 @@
-"""Case files of the day scheduler: make one, show one, find its best day, check a list of outputs, compare two; and
-the costs of a boiler maker's curve."""
+"""Case files of the day scheduler: make one, show one, find its best day, check a list of outputs, compare two, say
+what a price forecast has cost; and the costs of a boiler maker's curve."""
 
 import argparse
 import os
@@ -7,7 +7,7 @@ import sys
 from dataclasses import dataclass
 
 from best import best_csv, best_day, best_json, best_text
-from better import better_csv, better_json, better_text, compared
+from better import better_json, better_text, compared
 from calendars import Calendar
 from check import checked, checked_csv, checked_json, checked_text
 from costs import costs_csv, costs_json, costs_text
@@ -16,11 +16,13 @@ from dates import Span, hour_number, iso_date, span_of
 from ends import left
 from faults import Fault, Refused, named
 from files import contents, write
+from forecast import carried, forecast_json, forecast_text, read_row
 from lists import read_list
 from module import giqapsun
+from pairs import pair_csv
 from plot import svg
 from plot_costs import svg_of_costs
-from plot_two import svg_of_two
+from plot_two import svg_of_forecast, svg_of_two
 from prices import Hours, prices_text
 from reading import BY, file_of, read_case, reader
 from show import shown_csv, shown_json, shown_text
@@ -71,6 +73,12 @@ the higher profit wins; then the lower output at the first hour where they diffe
 named. If neither passes, neither is. Each file is a list as check takes it.
 """
 
+FORECAST = """\
+The plan is the best list at the prices of the first file. It is checked at those of the second, and stands beside the
+best list at these: the regret is what that one earns more. Both files are prices as make takes them, one for each hour
+of the case, and stand for the case's own; everything else is the case's, and orders that a file has must be too. With
+--curve profits are reckoned by a boiler maker's curve in place of F and A.
+"""
 
 CURVE = """\
 The curve's file holds the coefficients as the maker supplies them, floats of 64 bits from 0 to 1,000,000: a in
@@ -170,8 +178,22 @@ def better(arguments):
     pair = compared(arguments.file, reading, first, second)
     if arguments.plot is not None:
         write(arguments.plot, svg_of_two(pair, os.path.basename(named(arguments.file))).encode())
-    answer = _formed(arguments, pair, reading, better_text, better_json, better_csv)
+    answer = _formed(arguments, pair, reading, better_text, better_json, pair_csv)
     return Answer(answer.data, pair.status)
+
+
+def forecast(arguments):
+    """What a plan on a forecast earns at the actual prices; the picture of it and the best list goes to a file of its
+    own."""
+    by_curve = curve_of(arguments)
+    reading = read_case(arguments.file, contents(arguments.file))
+    rows = ((file, read_row(file, reading)) for file in (arguments.forecast, arguments.actual))
+    pair = carried(arguments.file, *rows, by_curve)
+    if arguments.plot is not None:
+        write(arguments.plot, svg_of_forecast(pair, os.path.basename(named(arguments.file))).encode())
+    if arguments.form == "csv":
+        say("\n".join(pair.notes()))
+    return _formed(arguments, pair, reading, forecast_text, forecast_json, pair_csv)
 
 
 def curve(arguments):
@@ -194,7 +216,7 @@ def parsed(words):
     """The command line."""
     parser = argparse.ArgumentParser(prog="case", description=__doc__, epilog=STATUSES)
     parser.add_argument("--version", action="version", version=f"case {giqapsun.__version__}")
-    commands = parser.add_subparsers(required=True, metavar="make | show | best | check | better | curve")
+    commands = parser.add_subparsers(required=True, metavar="make | show | best | check | better | forecast | curve")
     command = _command(commands, make, "write the case of a unit and its prices", MAKE)
     command.add_argument("unit", metavar="UNIT.toml")
     command.add_argument("prices", metavar="PRICES.csv")
@@ -226,12 +248,19 @@ def parsed(words):
     command.add_argument("second", metavar="SECOND.csv")
     command.add_argument("--plot", metavar="FILE.svg", help="draw both lists and the prices too")
     _forms(command)
+    command = _command(commands, forecast, "find what a plan on a price forecast earns and has cost", FORECAST)
+    command.add_argument("file", metavar="DAY.case")
+    command.add_argument("forecast", metavar="FORECAST.csv")
+    command.add_argument("actual", metavar="ACTUAL.csv")
+    command.add_argument("--curve", metavar="CURVE.toml", help="take the costs from a boiler maker's curve")
+    command.add_argument("--plot", metavar="FILE.svg", help="draw both lists and both rows of prices too")
+    _forms(command)
     command = _command(commands, curve, "print the costs of a boiler maker's curve", CURVE)
     command.add_argument("curve", metavar="CURVE.toml")
     command.add_argument("--plot", metavar="FILE.svg", help="draw the costs too")
     _forms(command)
     arguments = parser.parse_args(words)
-    files = ("unit", "file", "list", "first", "second", "calendar", "curve")
+    files = ("unit", "file", "list", "first", "second", "forecast", "actual", "calendar", "curve")
     inputs = [getattr(arguments, name, None) for name in files]
     inputs.append(arguments.prices if arguments.run is make else None)
     if inputs.count("-") > 1:

@@ -28,6 +28,16 @@ def dollars_of_half_mills(half_mills):
     return decimal(5 * half_mills, 10000, 4)
 
 
+def in_words(half_mills):
+    """An amount in dollars, and in half-mills beside them."""
+    return f"${dollars_of_half_mills(half_mills)} ({half_mills} half-mills)"
+
+
+def amount_fields(name, half_mills):
+    """An amount for a program, in half-mills and in dollars."""
+    return {f"{name}_half_mills": half_mills, f"{name}_dollars": machine(dollars_of_half_mills(half_mills))}
+
+
 def widest(half_mills):
     """The letters of a column that holds these amounts in dollars, and 14 at the least."""
     return max(14, *(len(dollars_of_half_mills(amount)) for amount in half_mills))

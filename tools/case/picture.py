@@ -26,8 +26,9 @@ LETTER = 6.5
 # letters of a file's name that a line has room for
 MOST = 60
 
-# from the bottom of a panel to the amounts that stand below it, and from a line of those of a day to the next
-BELOW, LINE = 28, 14
+# from the bottom of a panel to the amounts that stand below it, from a line of those of a day to the next, and from a
+# row of those of the hours to the next
+BELOW, LINE, ROW = 28, 14, 68
 
 # hours from a number below a panel to the next, and from a mark of a list to the next, where hours are divided
 APART = 6
@@ -46,6 +47,7 @@ text { font-family: 'DejaVu Sans', Verdana, sans-serif; font-size: 12px; fill: #
 .output { stroke: #1f5fa8; }
 .other { stroke: #8a2f7c; stroke-dasharray: 7 4; }
 .price { stroke: #a34a17; }
+.forecast { stroke: #1d6f6a; stroke-dasharray: 4 3; }
 .cut { fill: #a34a17; }
 .far { fill: #1a1a1a; }
 .area { fill: #1f5fa8; fill-opacity: 0.12; }
@@ -77,6 +79,7 @@ text { fill: #ececec; }
 .output { stroke: #7ab3f2; }
 .other { stroke: #e59ad8; }
 .price { stroke: #f0a070; }
+.forecast { stroke: #6fd3cb; }
 .cut { fill: #f0a070; }
 .far { fill: #ececec; }
 .area { fill: #7ab3f2; fill-opacity: 0.2; }
@@ -93,6 +96,9 @@ text { fill: #ececec; }
 .hatch-loss { stroke: #f0a070; }
 .hour { fill: #ececec; }
 }"""
+
+# how each row of prices is drawn, by its word
+ROWS = {"": "line price", "forecast": "line forecast", "actual": "line price"}
 
 # a hatch for each: lines that rise, lines that cross, lines that fall
 HATCHES = {"on": "M0,8 L8,0", "off": "M0,0 L8,8 M0,8 L8,0", "loss": "M0,0 L8,8"}
@@ -152,10 +158,10 @@ class Panel:
             if not self.days or LETTER * len(words) <= room:
                 yield text(self.x((start + end) / 2), self.top - 4, words, anchor="middle", kind="letters")
 
-    def amount(self, hour, words):
-        """An amount of an hour, upwards below the panel; none where hours are divided."""
+    def amount(self, hour, words, below=BELOW):
+        """An amount of an hour, upwards and so far below the panel; none where hours are divided."""
         if not self.days:
-            yield turned(self.x(hour - 0.5) + 3.5, self.bottom + BELOW, words, anchor="end", kind="amount")
+            yield turned(self.x(hour - 0.5) + 3.5, self.bottom + below, words, anchor="end", kind="amount")
 
     def of_day(self, day, *lines):
         """The name of a day and lines below it, in its middle; from its beginning on where it is too short for them."""
@@ -169,11 +175,13 @@ class Panel:
         """An amount, or the end of the scale where it is off it."""
         return min(max(amount, self.least), self.most)
 
-    def cuts(self, amounts, noun, kind):
-        """A triangle for each hour whose amount is off the scale, at the edge that it passes; how many there are."""
+    def cuts(self, rows, noun, kind):
+        """A triangle for each hour whose amount in a row is off the scale, at the edge that it passes; how many there
+        are."""
+        amounts = [pair for row in rows for pair in enumerate(row, 1)]
         words = []
         for mark, side, edge, way in (("\u25b2", "above", self.top, 1), ("\u25bc", "below", self.bottom, -1)):
-            hours = [hour for hour, amount in enumerate(amounts, 1) if way * amount > way * self.level(amount)]
+            hours = [hour for hour, amount in amounts if way * amount > way * self.level(amount)]
             half = min(5, (self.x(1) - self.x(0)) / 2)
             yield from (triangle(self.x(hour - 0.5), half, edge, way, kind) for hour in hours)
             if hours:
@@ -256,18 +264,24 @@ class Outputs(Panel):
 
 
 class Prices(Panel):
-    """The panel of prices. F is on it unless it would more than double the scale, or is disregarded."""
+    """The panel of prices: those of the case, or rows of them by their words. F is on it unless it would more than
+    double the scale, or is disregarded."""
 
-    def __init__(self, case, place, by_cost=True):
-        low, high = scale(case.prices)
-        self.case, self.by_cost = case, by_cost
+    def __init__(self, case, place, by_cost=True, rows=None):
+        self.case, self.by_cost, self.rows = case, by_cost, rows or {"": case.prices}
+        low, high = scale([price for prices in self.rows.values() for price in prices])
         self.holds_cost = by_cost and case.variable - low <= 2 * (high - low)
         super().__init__(len(case.prices), low, max(high, case.variable if self.holds_cost else 0), place)
+
+    @property
+    def end(self):
+        """Where a picture ends whose last panel it is."""
+        return self.bottom + 130 + ROW * (len(self.rows) - 1)
 
     def drawn(self):
         """The price of each hour, level from its beginning to its end, with its number below, or the least and the most
         of each day; and F."""
-        prices, cost = self.case.prices, self.case.variable
+        cost = self.case.variable
         yield from self.shades(self.case.orders)
         yield from self.frame("price ($/MWh)", lambda mills: short(dollars_of_mills(mills)))
         if self.holds_cost:
@@ -275,13 +289,28 @@ class Prices(Panel):
         elif self.by_cost:
             words = f"variable cost F {dollars_of_mills(cost)} $/MWh is above this scale"
             yield text(self.right, self.top - 12, words, anchor="end", kind="note")
-        for hour, price in enumerate(prices, 1):
-            yield from self.amount(hour, dollars_of_mills(price))
+        yield from self._ends() if self.days else self._numbers()
+        yield from self.cuts(self.rows.values(), "price", "cut")
+        for word, prices in self.rows.items():
+            yield from (polyline(points, ROWS[word]) for points in self._lines(prices) if len(set(points)) > 1)
+
+    def _numbers(self):
+        """The price of each hour below the panel, row by row, each with its word if it has one."""
+        for place, (word, prices) in enumerate(self.rows.items()):
+            below = BELOW + ROW * place
+            if word:
+                yield text(LEFT - 8, self.bottom + below + 10, word, anchor="end", kind="note")
+            for hour, price in enumerate(prices, 1):
+                yield from self.amount(hour, dollars_of_mills(price), below)
+
+    def _ends(self):
+        """The least and the most price of each day, row by row, each with its word if it has one."""
         for day in self.days:
-            least, most = (dollars_of_mills(end(day.of(prices))) for end in (min, max))
-            yield from self.of_day(day, f"least {least}", f"most {most}")
-        yield from self.cuts(prices, "price", "cut")
-        yield from (polyline(points, "line price") for points in self._lines(prices) if len(set(points)) > 1)
+            lines = []
+            for word, prices in self.rows.items():
+                least, most = (dollars_of_mills(end(day.of(prices))) for end in (min, max))
+                lines += filter(None, [word, f"least {least}", f"most {most}"])
+            yield from self.of_day(day, *lines)
 
     def _lines(self, prices):
         """The points of each line: one for the whole day, with a gap where a price is off the scale."""

@@ -67,7 +67,7 @@ def _earnings(case, earnings, energies):
     for day in panel.days:
         earned, energy = sum(day.of(earnings)), sum(day.of(energies))
         yield from panel.of_day(day, f"{dollars_of_half_mills(earned)} $", f"{megawatt_hours(energy)} MWh")
-    yield from panel.cuts(parts, "amount", "far")
+    yield from panel.cuts([parts], "amount", "far")
 
 
 def _named(calendar):

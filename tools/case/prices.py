@@ -14,11 +14,12 @@ PRICES = ("price_dollars", "price_mills")
 
 
 class Hours:
-    """The hours of a file: prices in mills per MWh and order bytes, with the line of each hour."""
+    """The hours of a file: prices in mills per MWh and order bytes, with the line of each hour. Without the column of
+    orders, which `ordered` tells, every hour is free."""
 
     def __init__(self, file):
         table = Table(file, ("hour", *PRICES, "order"), ("hour",))
-        self.file, self.column = file, _price_column(table)
+        self.file, self.column, self.ordered = file, _price_column(table), "order" in table.columns
         self.prices, self.orders, self.lines = [], [], []
         for line, row in table.hours():
             self.prices.append(_price(file, line, self.column, row[self.column]))
