@@ -139,12 +139,13 @@ class Days(unittest.TestCase):
         with self.assertRaises(TypeError):
             read(16)
 
-    def test_session_of_the_page(self):
-        """The session printed for the trading desk, as printed."""
-        with chdir(ROOT):
-            failed, tried = doctest.testfile("docs/readers/trading-desk.md", module_relative=False)
-        self.assertEqual(failed, 0)
-        self.assertGreater(tried, 5)
+    def test_sessions_of_the_pages(self):
+        """The sessions printed for the trading desk, as printed."""
+        for page in ("trading-desk", "forecast"):
+            with chdir(ROOT):
+                failed, tried = doctest.testfile(f"docs/readers/{page}.md", module_relative=False)
+            self.assertEqual(failed, 0)
+            self.assertGreater(tried, 5)
 
 
 class Listed(list):
