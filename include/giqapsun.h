@@ -156,7 +156,7 @@ extern "C" {
 #endif
 
 /* Version of the product. */
-#define GIQAPSUN_VERSION "4.1.0"
+#define GIQAPSUN_VERSION "4.2.0"
 
 /*
  * Number of the layout: it changes with every change of a struct below, and each function of the library

@@ -56,7 +56,7 @@ from ._boundary import Curve as _Curve
 from ._boundary import LibraryError, calls, library_file
 from ._texts import REFUSALS, RULES
 
-__version__ = "4.1.0"
+__version__ = "4.2.0"
 
 __all__ = [
     "Case", "Opening", "Passes", "Breaks", "Plan", "First", "Second", "Neither", "Refusal", "LibraryError",
