@@ -1,19 +1,19 @@
 -- What a price forecast can do, of any search that answers with the best list by what lists earn at a row of prices,
--- and any check that says what they earn; and that `schedule` and `check` are such, plain and by a curve. Assumes
--- nothing.
+-- and any check that says what they earn; and that `schedule` and `check` are such, plain, by a calendar and by a
+-- curve. Assumes nothing.
 use mathlib.Core.Path.{_≡_, refl, sym, ap, subst, _∙_}
 use mathlib.Core.Logic.{_⊎_, inl, inr}
 use mathlib.Core.Bool.{Bool}
 use mathlib.Core.List.{List}
 use mathlib.Core.Option.{Option, none, some}
-use Prim.Native.Nat.{ℕ, _+_, _*_, _≤_}
+use Prim.Native.Nat.{ℕ, _+_, _*_, _≤_, _<_}
 use native.Mathlib.Omega.{arith}
 use lib.Dec.{T}
 use lib.IntN.{ℤ, pos, _+ℤ_, _-ℤ_, _*ℤ_}
-use lib.ListN.{length, take}
+use lib.ListN.{length, getD, take}
 use lib.Signed.{_≤ℤ_, ≤ℤ-refl}
 use Rattle.curve.specs.declared.Kind.{Kind}
-use Rattle.curve.specs.Cost.{costsLength, recordOf, accepted}
+use Rattle.curve.specs.Cost.{costsLength, recordOf, accepted as acceptable}
 use Rattle.laws.proofs.Signed.{linear, parts-+, parts--, parts-*, parts-pos}
 use Rattle.model.specs.declared.Case.{Case}
 use Rattle.quantities.specs.declared.Mills.{Mills}
@@ -26,15 +26,19 @@ use Rattle.model.specs.Profit.{energy, profitOf}
 use Rattle.model.specs.Best.{Best, bestBy, bestDay}
 use Rattle.model.specs.Refusals.{workLength, refusalOf}
 use Rattle.model.specs.Answers.{Scheduling, planned, checkOf, scheduleOf, verdictNumbers, planNumbers}
+use Rattle.model.specs.Calendar.{calendarOf}
 use Rattle.model.specs.Curves.{Filling, earnedBy, checkByCurveOf, scheduleByCurveOf}
-use Rattle.model.specs.Forecast.{withPrices, NoLower, HalfWay, RaisedBy, RaisedAt, gain, distance, energyOf, Row}
-use Rattle.model.specs.Forecast.{Calls, number, best, plan, earns, Pass, Forecasts}
+use Rattle.model.specs.Published.{FirstRefused}
+use Rattle.model.specs.Windows.{CalendarLimited, calendarOrder, GivesOrder}
+use Rattle.model.specs.Forecast.{withPrices, ordered, NoLower, HalfWay, RaisedBy, RaisedAt, gain, distance}
+use Rattle.model.specs.Forecast.{energyOf, Row, Calls, number, best, plan, earns, Pass, Forecasts}
 use Rattle.model.proofs.LimitsLaws.{limits-of-refusalOf}
 use Rattle.model.proofs.KeepsLaws.{kept-length}
 use Rattle.model.proofs.CapacityLaws.{p-le}
 use Rattle.model.proofs.BestLaws.{best-most, best-of-bestBy, none-of-bestBy}
 use Rattle.model.proofs.ScheduleLaws.{scheduleOf-planned}
 use Rattle.model.proofs.AnswersLaws.{passes, keeps-of-passes, planned-list, planned-none}
+use Rattle.model.proofs.CalendarLaws.{filled-day}
 use Rattle.model.proofs.CurvesLaws.{scheduleByCurveOf-planned, keeps-of-curve-passes, curve-passes}
 use Rattle.model.proofs.PricesLaws.{keeps-prices, profitOf-gain, profitBy-gain, gain-no-lower, gain-apart}
 use Rattle.model.proofs.PricesLaws.{best-no-lower, best-regret, best-raised, best-raised-at, earns-half-way}
@@ -290,18 +294,42 @@ module _ (c : Case) (work : Row c → List ℤ) (outputs : Row c → List ℕ)
   unfolding bestDay workLength
   search-is f = scheduleOf-planned (at c f) (work f) (outputs f) (f .accepted) (long f) (room f)
 
+  -- any search that answers as `schedule` does at each row
+  as-scheduled : (search : Row c → Scheduling)
+      → ((f : Row c) → search f ≡ scheduleOf Accepted (at c f) (work f) (outputs f))
+      → Forecasts {c = c} (record { search = search; check = λ f l. checkOf Accepted (at c f) l })
+  as-scheduled search same =
+      forecasts _ (λ f l. profitOf (withPrices c f) l) (profitOf-gain c)
+      (λ f. searched c f (profitOf (at c f)) (work f) (outputs f) (same f ∙ search-is f))
+      (λ f l k. passes (at c f) l (f .accepted) .0 (there c f l k))
+      (λ f l s. own c f l (keeps-of-passes (at c f) l (f .accepted) s))
+
   pub forecast : Forecasts {c = c} (record {
     search = λ f. scheduleOf Accepted (at c f) (work f) (outputs f);
     check = λ f l. checkOf Accepted (at c f) l;
   })
-  forecast =
-      forecasts _ (λ f l. profitOf (withPrices c f) l) (profitOf-gain c)
-      (λ f. searched c f (profitOf (at c f)) (work f) (outputs f) (search-is f))
-      (λ f l k. passes (at c f) l (f .accepted) .0 (there c f l k))
-      (λ f l s. own c f l (keeps-of-passes (at c f) l (f .accepted) s))
+  forecast = as-scheduled (λ f. scheduleOf Accepted (at c f) (work f) (outputs f)) (λ f. refl)
+
+-- by a calendar: the record with the orders of the day, where its own are accepted too
+module _ (c : Case) (on off : List ℕ) (first hours : ℕ) (orders : List ℕ)
+    (limited : FirstRefused (CalendarLimited on off first hours) calendarOrder 0) (whole : c .hours ≡ hours)
+    (given : (i : ℕ) → i < hours → GivesOrder on off (first + i) (getD orders i 0))
+    (accepted : (f : Row (ordered c orders)) → refusalOf (withPrices c (f .prices)) ≡ 0)
+    (work : Row (ordered c orders) → List ℤ) (outputs : Row (ordered c orders) → List ℕ)
+    (long : (f : Row (ordered c orders)) → workLength c ≤ length (work f))
+    (room : (f : Row (ordered c orders)) → c .hours ≤ length (outputs f)) where
+  pub calendar-forecast : Forecasts {c = ordered c orders} (record {
+    search = λ f. calendarOf Accepted (withPrices c (f .prices)) on off first hours (work f) (outputs f);
+    check = λ f l. checkOf Accepted (at (ordered c orders) f) l;
+  })
+  unfolding workLength
+  calendar-forecast =
+      as-scheduled (ordered c orders) work outputs long room _
+      (λ f. filled-day (withPrices c (f .prices)) on off first hours (work f) (outputs f) limited orders whole
+      (accepted f) given)
 
 -- by a curve
-module _ (k : Kind) (good : T (accepted (recordOf k))) (c : Case) (table work : Row c → List ℤ)
+module _ (k : Kind) (good : T (acceptable (recordOf k))) (c : Case) (table work : Row c → List ℤ)
     (outputs : Row c → List ℕ) (room : (f : Row c) → costsLength ≤ length (table f))
     (long : (f : Row c) → workLength c ≤ length (work f)) (outs : (f : Row c) → c .hours ≤ length (outputs f)) where
   search-by : (f : Row c)

@@ -1,6 +1,6 @@
 -- What a price forecast can do (request F-8): what holds of a search and a check of one record at rows of prices, by
--- what the two answer. The promises say it of `schedule` and `check`, and of those by a curve; no entry rests on it.
--- Definitions only. Assumes nothing.
+-- what the two answer. The promises say it of `schedule` and `check`, by a calendar and by a curve too; no entry rests
+-- on it. Definitions only. Assumes nothing.
 use mathlib.Core.Path.{_≡_}
 use mathlib.Core.Logic.{_⊎_}
 use mathlib.Core.List.{List}
@@ -18,9 +18,12 @@ use Rattle.model.specs.Refusals.{refusalOf}
 use Rattle.model.specs.Answers.{Scheduling, verdictNumbers, planNumbers}
 use Rattle.model.specs.Words.{sumℤ}
 
--- the record with other prices
+-- the record with other prices, and with other orders
 abbrev pub withPrices : Case → List Mills → Case
 withPrices c prices = withArrays c (c .rise) (c .fall) prices (c .orders)
+
+abbrev pub ordered : Case → List ℕ → Case
+ordered c orders = withArrays c (c .rise) (c .fall) (c .prices) orders
 
 -- the price of hour k, from 1, in mills per MWh
 abbrev pub entry : List Mills → ℕ → ℤ

@@ -1,5 +1,5 @@
-// The wrapped numbers, each with one unit: megawatts, hours, mills (thousandths of a dollar) and half-mills never stand in
-// for one another. Sums of outputs and of hours ask for room in 16 bits; differences stop at 0.
+// The wrapped numbers, each with one unit: megawatts, hours, mills (thousandths of a dollar) and half-mills never stand
+// in for one another. Sums of outputs and of hours ask for room in 16 bits; differences stop at 0.
 
 ghost use mathlib.Core.Path.{_≡_};
 ghost use Prim.Native.Nat.{_+_, _-_, _<_, min, max};
