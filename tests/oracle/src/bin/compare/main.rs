@@ -1,6 +1,6 @@
 //! Compares the library with the independent scheduler: every answer and every lent number.
 //!
-//! compare [--seed N] [--groups NAME,NAME.. [--index N]] [--limit SECONDS]
+//! compare [--seed N] [--groups NAME,NAME.. [--index N]] [--first N] [--limit SECONDS]
 //! compare --case FILE [--list OUTPUT,OUTPUT.. [--second OUTPUT,OUTPUT..]] [--limit SECONDS]
 //! compare --case FILE --day FIRST,HOURS [--on FIRST,LENGTH..] [--off FIRST,LENGTH..] [--limit SECONDS]
 //! compare [--case FILE [--list OUTPUT,OUTPUT..]] --curve KIND,A,B,C [--limit SECONDS]
@@ -150,10 +150,11 @@ fn run_groups(wishes: &Wishes) -> (u64, u64) {
     let mut total = (0, 0);
     for &place in &wishes.groups {
         let group = &GROUPS[place];
+        let count = wishes.first.map_or(group.count, |first| first.min(group.count));
         let series = Series {
             name: group.name,
             seed: wishes.seed.wrapping_add(place as u64),
-            indices: wishes.index.map_or(0..group.count, |index| index..index + 1),
+            indices: wishes.index.map_or(0..count, |index| index..index + 1),
             limit: wishes.limit,
             every_kind: group.every_kind.filter(|_| wishes.index.is_none()),
             compare: &group.run,

@@ -15,17 +15,18 @@ use std::time::Duration;
 
 /// How to call this program.
 pub const USAGE: &str = "\
-usage: compare [--seed N] [--groups NAME,NAME.. [--index N]] [--limit SECONDS]
+usage: compare [--seed N] [--groups NAME,NAME.. [--index N]] [--first N] [--limit SECONDS]
        compare --case FILE [--list OUTPUT,OUTPUT.. [--second OUTPUT,OUTPUT..]] [--limit SECONDS]
        compare --case FILE --day FIRST,HOURS [--on FIRST,LENGTH..] [--off FIRST,LENGTH..] [--limit SECONDS]
        compare [--case FILE [--list OUTPUT,OUTPUT..]] --curve KIND,A,B,C [--limit SECONDS]
        compare --case FILE --row PRICE,PRICE.. [--curve KIND,A,B,C | --day FIRST,HOURS ..] [--limit SECONDS]
        compare --groups
-The second runs one case, with a list to check if one is named, and a second one to compare it with; the third one
-case by a calendar; the fourth a cost curve, and one case by it, each coefficient a number or its bits after 0x; the
-fifth one case at its prices, at a second row and half-way; the last lists the groups. A call that takes longer than the
-limit, 10 s if none is named, is a difference. Status 1: something differs, or a kind of pairs, files, records, days,
-calendars, lists, lengths, curves or forecasts has not come up.";
+The first runs every index of the groups, one index of them, or the first so many; the second one case, with a list to
+check if one is named, and a second one to compare it with; the third one case by a calendar; the fourth a cost curve,
+and one case by it, each coefficient a number or its bits after 0x; the fifth one case at its prices, at a second row
+and half-way; the last lists the groups. A call that takes longer than the limit, 10 s if none is named, is a
+difference. Status 1: something differs, or a kind of pairs, files, records, days, calendars, lists, lengths, curves or
+forecasts has not come up.";
 
 /// Lists that may be named on the command line.
 const LISTS: [&str; 5] = ["list", "second", "on", "off", "day"];
@@ -43,6 +44,8 @@ pub struct Wishes {
     /// Places of groups; none of them asks for a list of all.
     pub groups: Vec<usize>,
     pub index: Option<u64>,
+    /// How many indices of a group are run, if not every one.
+    pub first: Option<u64>,
     pub limit: Duration,
     /// A file and its bytes.
     pub case: Option<(PathBuf, Vec<u8>)>,
@@ -75,6 +78,7 @@ pub fn wishes(words: impl Iterator<Item = String>) -> Result<Wishes, String> {
         seed: SEED,
         groups: (0..GROUPS.len()).collect(),
         index: None,
+        first: None,
         limit: Duration::from_secs(LIMIT),
         case: None,
         lists: Vec::new(),
@@ -89,6 +93,7 @@ pub fn wishes(words: impl Iterator<Item = String>) -> Result<Wishes, String> {
             "--seed" => wishes.seed = number(&word, &value)?,
             "--groups" => wishes.groups = places(&value)?,
             "--index" => wishes.index = Some(number(&word, &value)?),
+            "--first" => wishes.first = Some(number(&word, &value)?),
             "--limit" => wishes.limit = Duration::from_secs(number(&word, &value)?.max(1)),
             "--case" => wishes.case = Some(contents(&value)?),
             "--curve" => wishes.curve = Some(curve(&value)?),
@@ -99,6 +104,9 @@ pub fn wishes(words: impl Iterator<Item = String>) -> Result<Wishes, String> {
     tested(&wishes.lists)?;
     tested_row(&wishes)?;
     match wishes.index {
+        Some(_) if wishes.first.is_some() => {
+            Err("--first and --index are not asked for together".to_string())
+        }
         Some(index) if wishes.groups.iter().any(|&place| index >= GROUPS[place].count) => {
             Err(format!("not every group that is asked for has an index {index}"))
         }
