@@ -22,7 +22,7 @@ const BLOCK: usize = 16;
 const SLACK: i64 = 2;
 
 // What is offered to the first and to the last place of a block.
-#[derive(Drop)]
+#[derive(Clone, Copy)]
 struct Ends {
     first: HalfMills,
     last: HalfMills,
@@ -30,7 +30,7 @@ struct Ends {
 
 // What a block looks at: the places before `left` and from `right` on, and of the others those from `low` to before
 // `high`.
-#[derive(Drop)]
+#[derive(Clone, Copy)]
 struct Cut {
     left: usize,
     low: usize,

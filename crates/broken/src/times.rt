@@ -10,7 +10,7 @@ use hours::Numbers;
 use quantities::Hour;
 
 // At an hour: the hours since the latest start before it, and since the latest stop; with none, h and the hours passed.
-#[derive(Drop)]
+#[derive(Clone, Copy)]
 pub struct Since {
     pub start: Hour,
     pub stop: Hour,

@@ -106,9 +106,12 @@ first_same p e in_p (later l k) = later ((e _ in_p.0).0 l) (first_same p e in_p.
 -- where none is refused, limits that are kept with these refuse none
 pub none_first : {limited other : ℕ → Type 0} → ((m : ℕ) → limited m → other m) → {ns : List ℕ} → among (ltb 0) ns
     → FirstRefused limited ns 0 → FirstRefused other ns 0
-none_first e in_p none = none
-none_first e in_p (here out) = absurd in_p.0
-none_first e in_p (later l k) = later (e _ l) (none_first e in_p.1 k)
+none_first {limited = limited} {other = other} e {ns = ns} in_p f = go ns refl f in_p
+  where
+    go : (ns : List ℕ) {r : ℕ} → r ≡ 0 → FirstRefused limited ns r → among (ltb 0) ns → FirstRefused other ns 0
+    go [] z none in_p = none
+    go (n ∷ ns) z (here out) in_p = absurd (subst (λ m. T (ltb 0 m)) z in_p.0)
+    go (n ∷ ns) z (later l k) in_p = later (e _ l) (go ns z k in_p.1)
 
 -- no number of a record, and none of a file, is 0
 pub record_numbers : among (ltb 0) record_order

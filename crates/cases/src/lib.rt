@@ -77,7 +77,7 @@ pub const HALF_LONGS: u32 = 2147483648;
 
 // A case.
 #[repr(C)]
-#[derive(Drop)]
+#[derive(Clone, Copy)]
 pub struct Case {
     pub capacity: Output,
     pub minimum: Output,
@@ -109,35 +109,35 @@ pub struct Case {
 }
 
 // Whether a file or a record was accepted, or the number of its refusal.
-#[derive(Drop)]
+#[derive(Clone, Copy)]
 pub enum Outcome {
     Accepted,
     Refused(u8),
 }
 
 // The answer of `read` and `admit`: beside a refusal the record is all zeros.
-#[derive(Drop)]
+#[derive(Clone, Copy)]
 pub struct Reading {
     pub outcome: Outcome,
     pub case: Case,
 }
 
 // The answer of `write`: how many bytes were written, or the number of a refusal.
-#[derive(Drop)]
+#[derive(Clone, Copy)]
 pub enum Written {
     Bytes(usize),
     Refused(u8),
 }
 
 // An hour, and the number of the rule that is broken there.
-#[derive(Drop)]
+#[derive(Clone, Copy)]
 pub struct Breach {
     pub hour: Hour,
     pub rule: u8,
 }
 
 // The answer of `check`.
-#[derive(Drop)]
+#[derive(Clone, Copy)]
 pub enum Verdict {
     Passes(HalfMills),
     Breaks(Breach),
@@ -145,14 +145,14 @@ pub enum Verdict {
 }
 
 // The answer of `schedule`: what the list found earns, or the number of a refusal.
-#[derive(Drop)]
+#[derive(Clone, Copy)]
 pub enum Plan {
     Found(HalfMills),
     Refused(u8),
 }
 
 // The answer of `compare`: which of two lists to offer, with what it earns, or neither, or the number of a refusal.
-#[derive(Drop)]
+#[derive(Clone, Copy)]
 pub enum Comparison {
     First(HalfMills),
     Second(HalfMills),

@@ -1,6 +1,8 @@
 // Reads a case file, writes one, and admits a case record: cases' specs/Reads say what each answers and leaves.
 // Nothing outside the published limits is accepted: a file is refused by 1, 2, 12, 3 to 8 and 13, a record by 2 to 8
 // and 13, and a writing with too few bytes lent by 10. A refusal leaves the lent bytes as they are.
+#![tactic(auto)]
+
 mod entries;
 
 ghost use Rattle.std.specs.Prelude.{◌≡◌};

@@ -1,5 +1,7 @@
 // How often one number holds another, counted up one by one, so that nothing divides. Each function is called by crates
 // of this repository, which keep what it asks for.
+#![tactic(auto)]
+
 ghost use Rattle.std.specs.Prelude.{◌≡◌, ◌*◌, ◌/◌, ◌<◌, min};
 ghost use Rattle.cases.specs.Limits.{longs};
 

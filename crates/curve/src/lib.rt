@@ -19,7 +19,7 @@ pub const SIGN_PLACE: u64 = 63;
 pub const SCALE: u64 = 1074;
 
 // Flat (a), straight (a, b) or curved (a, b, c).
-#[derive(Drop)]
+#[derive(Clone, Copy)]
 pub enum Kind {
     Flat(f64),
     Straight(f64, f64),
@@ -28,7 +28,7 @@ pub enum Kind {
 
 // The three coefficients, unused ones 0.
 #[repr(C)]
-#[derive(Drop)]
+#[derive(Clone, Copy)]
 pub struct Curve {
     pub a: f64,
     pub b: f64,
@@ -36,14 +36,14 @@ pub struct Curve {
 }
 
 // A kind from outside, or none: an unused coefficient that is not 0, or a number that no kind has.
-#[derive(Drop)]
+#[derive(Clone, Copy)]
 pub enum Supplied {
     Given(Kind),
     Unfit,
 }
 
 // What came of filling a table, or the number of the refusal.
-#[derive(Drop)]
+#[derive(Clone, Copy)]
 pub enum Filled {
     Done,
     Refused(u8),

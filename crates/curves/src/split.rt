@@ -13,7 +13,7 @@ use machine::Rates;
 use quantities::{HalfMills, Mills};
 
 // Where the entries of the table lie on a line, the rates say what it says, and none is shown.
-#[derive(Drop)]
+#[derive(Clone, Copy)]
 pub(crate) struct Split {
     pub rates: Rates,
     pub shown: usize,

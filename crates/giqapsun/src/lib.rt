@@ -17,7 +17,7 @@ use quantities::{HalfMills, Hour};
 
 // The number of a refusal, or 0, and the record: zeros beside a refusal.
 #[repr(C)]
-#[derive(Drop)]
+#[derive(Clone, Copy)]
 pub struct GiqapsunReading {
     pub number: u32,
     pub case: Case,
@@ -25,7 +25,7 @@ pub struct GiqapsunReading {
 
 // The number of a refusal, or 0, and how many bytes were written.
 #[repr(C)]
-#[derive(Drop)]
+#[derive(Clone, Copy)]
 pub struct GiqapsunWritten {
     pub number: u32,
     pub length: usize,
@@ -33,7 +33,7 @@ pub struct GiqapsunWritten {
 
 // The number of a refusal, or 0; the hour and the rule of a breach, or 0 and 0; the profit of a list that passes.
 #[repr(C)]
-#[derive(Drop)]
+#[derive(Clone, Copy)]
 pub struct GiqapsunVerdict {
     pub number: u32,
     pub hour: u32,
@@ -43,7 +43,7 @@ pub struct GiqapsunVerdict {
 
 // The number of a refusal, or 0, and the profit of the list that was found.
 #[repr(C)]
-#[derive(Drop)]
+#[derive(Clone, Copy)]
 pub struct GiqapsunPlan {
     pub number: u32,
     pub profit: HalfMills,
@@ -51,7 +51,7 @@ pub struct GiqapsunPlan {
 
 // The number of a refusal, or 0; which list to offer, 1 or 2, or 0; and what it earns.
 #[repr(C)]
-#[derive(Drop)]
+#[derive(Clone, Copy)]
 pub struct GiqapsunChoice {
     pub number: u32,
     pub which: u32,

@@ -2,6 +2,8 @@
 // specs/Marks and specs/Constraints). A sum of marks is the difference of two running counts (specs/Counted), which
 // have the marks outside the day too. Only
 // other crates of this repository call what has a `requires` here, with a case within the limits.
+#![tactic(auto)]
+
 pub mod counts;
 pub mod marks;
 pub mod stages;
@@ -19,7 +21,7 @@ use quantities::{Hour, Output};
 
 // Of hour k, which counts from 1 as in the rules; at hour 0 both outputs are p(0), and there is no mark of a start or a
 // stop. Marks and counts of marks are bare numbers.
-#[derive(Drop)]
+#[derive(Clone, Copy)]
 pub struct Numbers {
     // p(k) and p(k−1)
     pub output: Output,

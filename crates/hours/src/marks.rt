@@ -7,7 +7,7 @@ use cases::Case;
 use quantities::{Hour, Output};
 
 // 1 where the unit is on-line at the end of an hour and at its beginning, where it starts and where it stops, else 0.
-#[derive(Drop)]
+#[derive(Clone, Copy)]
 pub struct Marks {
     pub online: u8,
     pub wasonline: u8,

@@ -9,7 +9,7 @@ use cases::STAGES;
 use quantities::{Hour, Output};
 
 // Of an hour: the starts or stops whose start-up or shut-down it lies in, and the output that these prescribe.
-#[derive(Drop)]
+#[derive(Clone, Copy)]
 pub struct Sequence {
     pub marks: u8,
     pub output: Output,

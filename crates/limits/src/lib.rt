@@ -1,5 +1,7 @@
 // The refusals of a record, 2 to 8 and 13: one test for each number, and the first that applies; how many numbers its
 // search works in (cases' specs/Refusals); and the number of an outcome (specs/Answers).
+#![tactic(auto)]
+
 ghost use Rattle.std.specs.Prelude.{false, cond, ◌≡◌, suc, ◌≤◌, ◌<◌, leb, eqb, pos, neg_ℤ};
 ghost use Rattle.cases.specs.Limits.{most_stages, most_hours, most_price, most_order};
 ghost use Rattle.quantities.specs.Widths.{words};

@@ -16,7 +16,7 @@ use quantities::Hour;
 
 // What is kept of the hours ahead: rows of a lock, by the hour at which it ends, or layers, where that is 0; and the
 // hour before which they end.
-#[derive(Drop)]
+#[derive(Clone, Copy)]
 pub struct Held {
     pub end: Hour,
     pub to: Hour,

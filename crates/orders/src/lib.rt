@@ -1,6 +1,8 @@
 // The orders that two lists of windows of a year, on-line and off_line, give the hours of a day (request F-3; model's
 // specs/Calendar). Lists or a day that are not as laid down are refused by 14, an hour of the day in both lists by 15.
 // Each number of a list is looked at once.
+#![tactic(auto)]
+
 mod windows;
 
 ghost use Rattle.std.specs.Prelude.{not, ◌||◌, cond, [], ◌≡◌, ◌≤◌, eqb, get_or, replicate};
@@ -15,7 +17,7 @@ use cases::{HOURS, LONG_DAY, SHORT_DAY};
 use quantities::Hour;
 
 // The orders of a day and 0, or the number of a refusal and orders that are all free.
-#[derive(Drop)]
+#[derive(Clone, Copy)]
 pub struct Filling {
     pub number: u8,
     pub orders: [u8; HOURS],

@@ -1,1 +1,2 @@
 // What follows from the definitions together: definitions, laws and promises. No function.
+#![tactic(auto)]

@@ -6,7 +6,7 @@ ghost use Rattle.quantities.specs.Widths.{words};
 
 // Megawatts: an output at the end of an hour, or the most that it may change in an hour.
 #[repr(C)]
-#[derive(Drop)]
+#[derive(Clone, Copy)]
 pub struct Output(pub u16);
 
 impl Output {
@@ -45,7 +45,7 @@ impl Output {
 
 // Hours: the index of an hour of the day, from 0, or a count of hours.
 #[repr(C)]
-#[derive(Drop)]
+#[derive(Clone, Copy)]
 pub struct Hour(pub u16);
 
 impl Hour {
@@ -78,10 +78,10 @@ impl Hour {
 
 // Mills: money per megawatt-hour, per hour, per start or per stop.
 #[repr(C)]
-#[derive(Drop)]
+#[derive(Clone, Copy)]
 pub struct Mills(pub i32);
 
 // Half-mills: what a list earns.
 #[repr(C)]
-#[derive(Drop)]
+#[derive(Clone, Copy)]
 pub struct HalfMills(pub i64);

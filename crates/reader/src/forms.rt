@@ -9,7 +9,7 @@ use cases::{
 };
 
 // The old form, form 2 and form 3.
-#[derive(Drop)]
+#[derive(Clone, Copy)]
 pub enum Form {
     Old,
     Two,

@@ -16,14 +16,14 @@ use cases::{Case, HOURS, STAGE_BYTES, STAGES};
 use quantities::{Hour, Mills, Output};
 
 // The outputs of a trajectory, and how many count.
-#[derive(Drop)]
+#[derive(Clone, Copy)]
 pub(crate) struct Trajectory {
     outputs: [Output; STAGES],
     count: usize,
 }
 
 // The prices and order bytes of a day, and how many count.
-#[derive(Drop)]
+#[derive(Clone, Copy)]
 pub(crate) struct Day {
     prices: [Mills; HOURS],
     orders: [u8; HOURS],

@@ -36,7 +36,7 @@ pub fn stride_of(u: Unit, n: usize, room: usize) -> Hour
 }
 
 // A slot, by its number from 0, and the hour whose layer it has.
-#[derive(Drop)]
+#[derive(Clone, Copy)]
 pub struct Slot {
     pub number: usize,
     pub hour: Hour,

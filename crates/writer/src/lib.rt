@@ -1,5 +1,7 @@
 // Writes the bytes of a case in the newest form, field by field at their offsets (cases' specs/Layout). What each
 // function leaves in the lent bytes: its own from an offset on, and every other as it was.
+#![tactic(auto)]
+
 mod numbers;
 
 ghost use Rattle.std.specs.Prelude.{◌≡◌, [], ◌∷◌, ◌++◌, ◌+◌, ◌*◌, ◌≤◌, ◌<◌, length, get_or};

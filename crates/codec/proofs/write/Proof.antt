@@ -13,60 +13,60 @@ use Rattle.codec.proofs.write.Statement.{statement}
 use Rattle.codec.proofs.write.Tie as tie
 
 -- the record has no refusal
-within : (c : tie.Else1) → refusal_of c.before.before.before.args.case ≡ 0
-within c = sym c.before.refusal-of.ensures ∙ c.if1.false
+within : (c : tie.Else-refusal-ne0) → refusal_of c.before.before.before.args.case ≡ 0
+within c = sym c.before.refusal_of-refusal.ensures ∙ c.if-refusal-ne0.false
 
 -- and the bytes lent are enough for its file
-abbrev start : tie.Else2 → tie.Start
+abbrev start : tie.Else-bytes-n → tie.Start
 start c = c.before.before.before.before.before
 
-room : (c : tie.Else2) → length (bytes_of (start c).args.case) ≤ length (start c).args.bytes.now
-room c = omega (arith, c.before.file-length.ensures)
+room : (c : tie.Else-bytes-n) → length (bytes_of (start c).args.case) ≤ length (start c).args.bytes.now
+room c = omega (arith, c.before.file_length-n.ensures)
 
-refusal-of-requires : tie.Need-refusal-of-requires
-refusal-of-requires c κs = tt
+refusal_of-refusal-requires : tie.Need-refusal_of-refusal-requires
+refusal_of-refusal-requires c κs = tt
 
-returns : tie.Need-returns
-returns c =
+returns-then-refusal-ne0 : tie.Need-returns-then-refusal-ne0
+returns-then-refusal-ne0 c =
     let args = c.before.before.before.args in
-    let number = c.before.refusal-of.ensures in
-    let e = write_of_refused args.case args.bytes.now (λ e. c.if1.true (number ∙ e)) in
+    let number = c.before.refusal_of-refusal.ensures in
+    let e = write_of_refused args.case args.bytes.now (λ e. c.if-refusal-ne0.true (number ∙ e)) in
     (ap Refused number ∙ ap (λ w. w.answer) e, ap (λ w. w.lent) e)
 
-file-length-requires : tie.Need-file-length-requires
-file-length-requires c κs = within c
+file_length-n-requires : tie.Need-file_length-n-requires
+file_length-n-requires c κs = within c
 
-returns-2 : tie.Need-returns-2
-returns-2 c =
+returns-then-bytes-n : tie.Need-returns-then-bytes-n
+returns-then-bytes-n c =
     let args = c.before.before.before.before.before.args in
-    let size = c.before.file-length.ensures in
+    let size = c.before.file_length-n.ensures in
     let lack : length args.bytes.now < length (bytes_of args.case) = omega (arith, size) in
     let e = write_of_short args.case args.bytes.now (within c.before.before) lack in
     (ap (λ w. w.answer) e, ap (λ w. w.lent) e)
 
-put-case-requires : tie.Need-put-case-requires
-put-case-requires c κs = let here = c.before in (within here.before.before, room here)
+put_case-requires : tie.Need-put_case-requires
+put_case-requires c κs = let here = c.before in (within here.before.before, room here)
 
-same_length : tie.Need-same-length
-same_length c = search rules
+shape_of-bytes : tie.Need-shape_of-bytes
+shape_of-bytes c = search rules
 
-returns-3 : tie.Need-returns-3
-returns-3 c =
+returns : tie.Need-returns
+returns c =
     let here = c.before.before.before.before in
     let args = (start here).args in
     let e = write_of_done args.case args.bytes.now (within here.before.before) (room here) in (
-      ap Bytes here.before.file-length.ensures ∙ ap (λ w. w.answer) e,
-      c.before.before.put-case.ensures ∙ ap (λ w. w.lent) e,
+      ap Bytes here.before.file_length-n.ensures ∙ ap (λ w. w.answer) e,
+      c.before.before.put_case.ensures ∙ ap (λ w. w.lent) e,
     )
 
 pub write_spec : {M : Type 1} → statement M
 write_spec =
     tie.close
     (tie.spec
-    refusal-of-requires
-    returns
-    file-length-requires
-    returns-2
-    put-case-requires
-    same_length
-    returns-3)
+    refusal_of-refusal-requires
+    returns-then-refusal-ne0
+    file_length-n-requires
+    returns-then-bytes-n
+    put_case-requires
+    shape_of-bytes
+    returns)

@@ -6,25 +6,25 @@ use Prim.Native.Nat.{◌*◌, ◌/◌, ◌≤◌}
 use Rattle.count.proofs.up_to.Statement.{statement}
 use Rattle.count.proofs.up_to.Tie as tie
 
-mul-if1 : tie.Need-overflow-mul-if1
-mul-if1 c = search rules
+overflow_mul-size : tie.Need-overflow_mul-size
+overflow_mul-size c = search rules
 
-returns : tie.Need-returns
-returns c =
+returns-then-size-most : tie.Need-returns-then-size-most
+returns-then-size-most c =
     let s = c.before in
     let a = s.args in
-    let there : a.most * a.size ≤ a.amount = omega (arith, c.if1.true, mul_comm a.most a.size) in
+    let there : a.most * a.size ≤ a.amount = omega (arith, c.if-size-most.true, mul_comm a.most a.size) in
     let room : a.most ≤ a.amount / a.size = (le-div_iff_mul-le s.requires.0).1 there in
     omega (arith, room)
 
 whole-requires : tie.Need-whole-requires
 whole-requires c κs = search rules
 
-returns-2 : tie.Need-returns-2
-returns-2 c =
+returns : tie.Need-returns
+returns c =
     let a = c.before.before.args in
-    let few : a.amount / a.size ≤ a.most = div-le_of_le-mul a.size (omega (arith, c.before.if1.false)) in
+    let few : a.amount / a.size ≤ a.most = div-le_of_le-mul a.size (omega (arith, c.before.if-size-most.false)) in
     omega (arith, few, c.whole.ensures)
 
-pub up-to-spec : {M : Type 1} → statement M
-up-to-spec = tie.close (tie.spec mul-if1 returns whole-requires returns-2)
+pub up_to_spec : {M : Type 1} → statement M
+up_to_spec = tie.close (tie.spec overflow_mul-size returns-then-size-most whole-requires returns)

@@ -11,47 +11,47 @@ use Rattle.cases.proofs.RefusalsLaws.{every_none, every_more, priced_here}
 use Rattle.limits.proofs.bounded.Statement.{statement}
 use Rattle.limits.proofs.bounded.Tie as tie
 
-abbrev invariant-loop : tie.invariant-loop
-invariant-loop n prices so₀ i₀ so i =
+abbrev invariant-loop-i : tie.invariant-loop-i
+invariant-loop-i n prices so₀ i₀ so i =
     (i ≤ n) × (so ≡ every (λ k. amounts (neg_ℤ (pos most_price)) (pos most_price) (priced prices k)) i)
 
-abbrev decreases-loop : tie.decreases-loop
-decreases-loop n prices so₀ i₀ so i = n - i
+abbrev decreases-loop-i : tie.decreases-loop-i
+decreases-loop-i n prices so₀ i₀ so i = n - i
 
-loop-holds : tie.Need-loop-init invariant-loop decreases-loop
-loop-holds c = (omega arith, every_none _)
+loop-i-init : tie.Need-loop-i-init invariant-loop-i decreases-loop-i
+loop-i-init c = (omega arith, every_none _)
 
-mul-amounts : tie.Need-overflow-mul-amounts invariant-loop decreases-loop
-mul-amounts c = omega arith
+offset_bounds-prices-i : tie.Need-offset_bounds-prices-i invariant-loop-i decreases-loop-i
+offset_bounds-prices-i c = omega arith
 
-array-copy-out-amounts : tie.Need-array-copy-out-amounts invariant-loop decreases-loop
-array-copy-out-amounts c = omega arith
+bounds-prices-i : tie.Need-bounds-prices-i invariant-loop-i decreases-loop-i
+bounds-prices-i c = omega arith
 
-sub-t11 : tie.Need-overflow-sub-t11 invariant-loop decreases-loop
-sub-t11 c = search rules
+overflow_sub-amounts : tie.Need-overflow_sub-amounts invariant-loop-i decreases-loop-i
+overflow_sub-amounts c = search rules
 
-amounts-requires : tie.Need-amounts-requires invariant-loop decreases-loop
-amounts-requires c κs = tt
+amounts-so-requires : tie.Need-amounts-so-requires invariant-loop-i decreases-loop-i
+amounts-so-requires c κs = tt
 
-add-i : tie.Need-overflow-add-i invariant-loop decreases-loop
-add-i c = omega arith
+overflow_add-i : tie.Need-overflow_add-i invariant-loop-i decreases-loop-i
+overflow_add-i c = omega arith
 
-loop-less : tie.Need-loop-smaller invariant-loop decreases-loop
-loop-less c = omega arith
+loop-i-smaller : tie.Need-loop-i-smaller invariant-loop-i decreases-loop-i
+loop-i-smaller c = omega arith
 
-loop-again : tie.Need-loop-preserved invariant-loop decreases-loop
-loop-again c =
+loop-i-preserved : tie.Need-loop-i-preserved invariant-loop-i decreases-loop-i
+loop-i-preserved c =
     let at = c.before.before.before in
-    let l = at.loop in
-    let here = priced_here at.before.args.t1 l.i in (
+    let l = at.loop-i in
+    let here = priced_here at.before.args.prices l.i in (
       omega arith,
       every_more _ l.i l.invariant.1
-          (c.amounts.ensures ∙ ap (amounts (neg_ℤ (pos most_price)) (pos most_price)) here),
+          (c.amounts-so.ensures ∙ ap (amounts (neg_ℤ (pos most_price)) (pos most_price)) here),
     )
 
-returns : tie.Need-returns invariant-loop decreases-loop
+returns : tie.Need-returns invariant-loop-i decreases-loop-i
 returns c =
-    let l = c.before.loop in
+    let l = c.before.loop-i in
     let e : l.i ≡ c.before.before.args.n = omega arith in
     l.invariant.1 ∙ ap (every _) e
 
@@ -59,14 +59,14 @@ pub bounded_spec : {M : Type 1} → statement M
 bounded_spec =
     tie.close
     (tie.spec
-    invariant-loop
-    decreases-loop
-    loop-holds
-    mul-amounts
-    array-copy-out-amounts
-    sub-t11
-    amounts-requires
-    add-i
-    loop-less
-    loop-again
+    invariant-loop-i
+    decreases-loop-i
+    loop-i-init
+    offset_bounds-prices-i
+    bounds-prices-i
+    overflow_sub-amounts
+    amounts-so-requires
+    overflow_add-i
+    loop-i-smaller
+    loop-i-preserved
     returns)

@@ -14,17 +14,17 @@ use Rattle.limits.proofs.climbs.Tie as tie
 counted : (s : tie.Start) → Between 1 most_stages s.args.case.rises
 counted s = (counts s.args.case s.requires).0
 
-sub-steps : tie.Need-overflow-sub-steps
-sub-steps c = let n = counted c.before.before in omega arith
+overflow_sub-steps : tie.Need-overflow_sub-steps
+overflow_sub-steps c = let n = counted c.before.before in omega arith
 
-array-copy-out-first : tie.Need-array-copy-out-first
-array-copy-out-first c = omega arith
+bounds-rise-0 : tie.Need-bounds-rise-0
+bounds-rise-0 c = omega arith
 
-mul-last : tie.Need-overflow-mul-last
-mul-last c = let n = counted c.before.before.before in omega arith
+offset_bounds-rise-steps : tie.Need-offset_bounds-rise-steps
+offset_bounds-rise-steps c = let n = counted c.before.before.before in omega arith
 
-array-copy-out-last : tie.Need-array-copy-out-last
-array-copy-out-last c = let n = counted c.before.before.before in omega arith
+bounds-rise-steps : tie.Need-bounds-rise-steps
+bounds-rise-steps c = let n = counted c.before.before.before in omega arith
 
 strict-requires : tie.Need-strict-requires
 strict-requires c κs =
@@ -40,7 +40,7 @@ returns c =
     λ j. leb 1 (stage_here case.rise 0 j)
     && (c.before.before.strict.ensures j && eqb (end j) case.minimum.0)
 
-pub climbs-spec : {M : Type 1} → statement M
-climbs-spec =
+pub climbs_spec : {M : Type 1} → statement M
+climbs_spec =
     tie.close
-    (tie.spec sub-steps array-copy-out-first mul-last array-copy-out-last strict-requires returns)
+    (tie.spec overflow_sub-steps bounds-rise-0 offset_bounds-rise-steps bounds-rise-steps strict-requires returns)

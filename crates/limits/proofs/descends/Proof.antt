@@ -14,17 +14,17 @@ use Rattle.limits.proofs.descends.Tie as tie
 counted : (s : tie.Start) → Between 1 most_stages s.args.case.falls
 counted s = (counts s.args.case s.requires).1
 
-sub-steps : tie.Need-overflow-sub-steps
-sub-steps c = let n = counted c.before.before in omega arith
+overflow_sub-steps : tie.Need-overflow_sub-steps
+overflow_sub-steps c = let n = counted c.before.before in omega arith
 
-array-copy-out-first : tie.Need-array-copy-out-first
-array-copy-out-first c = omega arith
+bounds-fall-0 : tie.Need-bounds-fall-0
+bounds-fall-0 c = omega arith
 
-mul-last : tie.Need-overflow-mul-last
-mul-last c = let n = counted c.before.before.before in omega arith
+offset_bounds-fall-steps : tie.Need-offset_bounds-fall-steps
+offset_bounds-fall-steps c = let n = counted c.before.before.before in omega arith
 
-array-copy-out-last : tie.Need-array-copy-out-last
-array-copy-out-last c = let n = counted c.before.before.before in omega arith
+bounds-fall-steps : tie.Need-bounds-fall-steps
+bounds-fall-steps c = let n = counted c.before.before.before in omega arith
 
 strict-requires : tie.Need-strict-requires
 strict-requires c κs =
@@ -40,7 +40,7 @@ returns c =
     λ j. eqb (stage_here case.fall 0 j) case.minimum.0
     && (c.before.strict.ensures j && leb 1 (end j))
 
-pub descends-spec : {M : Type 1} → statement M
-descends-spec =
+pub descends_spec : {M : Type 1} → statement M
+descends_spec =
     tie.close
-    (tie.spec sub-steps array-copy-out-first mul-last array-copy-out-last strict-requires returns)
+    (tie.spec overflow_sub-steps bounds-fall-0 offset_bounds-fall-steps bounds-fall-steps strict-requires returns)

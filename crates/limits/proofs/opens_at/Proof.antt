@@ -6,19 +6,19 @@ use Rattle.cases.proofs.RefusalsLaws.{stage_last}
 use Rattle.limits.proofs.opens_at.Statement.{statement}
 use Rattle.limits.proofs.opens_at.Tie as tie
 
-sub-output : tie.Need-overflow-sub-output
-sub-output c = omega arith
+overflow_sub-output : tie.Need-overflow_sub-output
+overflow_sub-output c = omega arith
 
-mul-output : tie.Need-overflow-mul-output
-mul-output c = omega arith
+offset_bounds-outputs-i : tie.Need-offset_bounds-outputs-i
+offset_bounds-outputs-i c = omega arith
 
-array-copy-out-output : tie.Need-array-copy-out-output
-array-copy-out-output c = omega arith
+bounds-outputs-i : tie.Need-bounds-outputs-i
+bounds-outputs-i c = omega arith
 
 returns : tie.Need-returns
 returns c =
     let s = c.before.before.before in
-    ap (eqb s.args.initial.0) (stage_last s.args.t2 s.args.i s.requires.0)
+    ap (eqb s.args.initial.0) (stage_last s.args.outputs s.args.i s.requires.0)
 
-pub opens-at-spec : {M : Type 1} → statement M
-opens-at-spec = tie.close (tie.spec sub-output mul-output array-copy-out-output returns)
+pub opens_at_spec : {M : Type 1} → statement M
+opens_at_spec = tie.close (tie.spec overflow_sub-output offset_bounds-outputs-i bounds-outputs-i returns)

@@ -5,11 +5,11 @@ use Rattle.cases.proofs.RefusalsLaws.{opens_free_at}
 use Rattle.limits.proofs.opens_free.Statement.{statement}
 use Rattle.limits.proofs.opens_free.Tie as tie
 
-between-requires : tie.Need-between-requires
-between-requires c κs = tt
+between-running-requires : tie.Need-between-running-requires
+between-running-requires c κs = tt
 
-hours-of-requires : tie.Need-hours-of-requires
-hours-of-requires c κs =
+hours_of-requires : tie.Need-hours_of-requires
+hours_of-requires c κs =
     let s = c.before in
     let (rises, falls, hours) = counts s.args.case s.requires in
     omega arith
@@ -17,7 +17,7 @@ hours-of-requires c κs =
 returns : tie.Need-returns
 returns c =
     let hours = c.before.before.before.before in
-    opens_free_at hours.before.before.args.case _ hours.hours-of.ensures hours.before.between.ensures
+    opens_free_at hours.before.before.args.case _ hours.hours_of.ensures hours.before.between-running.ensures
 
-pub opens-free-spec : {M : Type 1} → statement M
-opens-free-spec = tie.close (tie.spec between-requires hours-of-requires returns)
+pub opens_free_spec : {M : Type 1} → statement M
+opens_free_spec = tie.close (tie.spec between-running-requires hours_of-requires returns)

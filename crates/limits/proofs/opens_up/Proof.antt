@@ -17,62 +17,62 @@ use Rattle.limits.proofs.opens_up.Tie as tie
 counted : (s : tie.Start) → Between 1 most_stages s.args.case.rises
 counted s = (counts s.args.case s.requires).0
 
-stage-of-requires : tie.Need-stage-of-requires
-stage-of-requires c κs = tt
+stage_of-stage-requires : tie.Need-stage_of-stage-requires
+stage_of-stage-requires c κs = tt
 
-sub-counted : tie.Need-overflow-sub-counted
-sub-counted c = let n = counted c.before.before.before in omega arith
+overflow_sub-case : tie.Need-overflow_sub-case
+overflow_sub-case c = let n = counted c.before.before.before in omega arith
 
 counted-requires : tie.Need-counted-requires
 counted-requires c κs = tt
 
-returns : tie.Need-returns
-returns c =
+returns-then-not-counted : tie.Need-returns-then-not-counted
+returns-then-not-counted c =
     let tested = c.before in
     let read = tested.before.before in
-    opens_up_none read.before.before.args.case _ read.stage-of.ensures
-    (sym tested.counted.ensures ∙ not-true _ c.if1.true)
+    opens_up_none read.before.before.args.case _ read.stage_of-stage.ensures
+    (sym tested.counted.ensures ∙ not-true _ c.if-not-counted.true-raw)
 
 -- the stage is one below the count
-abbrev case : tie.Else1 → Case
+abbrev case : tie.Else-not-counted → Case
 case c = c.before.before.before.before.before.args.case
 
-abbrev stage : tie.Else1 → ℕ
-stage c = c.before.before.before.stage-of.result
+abbrev stage : tie.Else-not-counted → ℕ
+stage c = c.before.before.before.stage_of-stage.result
 
-staged : (c : tie.Else1) → within 1 ((case c).rises - 1) (stage c) ≡ true
-staged c = sym c.before.counted.ensures ∙ not-false _ c.if1.false
+staged : (c : tie.Else-not-counted) → within 1 ((case c).rises - 1) (stage c) ≡ true
+staged c = sym c.before.counted.ensures ∙ not-false _ c.if-not-counted.false-raw
 
-opens-at-requires : tie.Need-opens-at-requires
-opens-at-requires c κs =
+opens_at-output-requires : tie.Need-opens_at-output-requires
+opens_at-output-requires c κs =
     let start = c.before.before.before.before.before in
-    let n = counted start in
-    let s = within_true 1 ((case c).rises - 1) (stage c) (staged c) in
+    let n = counted start.before in
+    let s = within_true 1 ((case c.before).rises - 1) (stage c.before) (staged c.before) in
     omega arith
 
-hours-of-requires : tie.Need-hours-of-requires
-hours-of-requires c κs =
+hours_of-requires : tie.Need-hours_of-requires
+hours_of-requires c κs =
     let here = c.before in
     let start = here.before.before.before.before.before in
-    let n = counted start in
-    let s = within_true 1 ((case here).rises - 1) (stage here) (staged here) in
+    let n = counted start.before in
+    let s = within_true 1 ((case here.before).rises - 1) (stage here.before) (staged here.before) in
     omega arith
 
-returns-2 : tie.Need-returns-2
-returns-2 c =
+returns : tie.Need-returns
+returns c =
     let hours = c.before.before.before in
     let here = hours.before.before in
-    opens_up_some (case here) _ _ here.before.before.before.stage-of.ensures hours.hours-of.ensures
-    (staged here) hours.before.opens_at.ensures
+    opens_up_some (case here.before) _ _ here.before.before.before.stage_of-stage.ensures hours.hours_of.ensures
+    (staged here.before) hours.before.opens_at-output.ensures
 
-pub opens-up-spec : {M : Type 1} → statement M
-opens-up-spec =
+pub opens_up_spec : {M : Type 1} → statement M
+opens_up_spec =
     tie.close
     (tie.spec
-    stage-of-requires
-    sub-counted
+    stage_of-stage-requires
+    overflow_sub-case
     counted-requires
-    returns
-    opens-at-requires
-    hours-of-requires
-    returns-2)
+    returns-then-not-counted
+    opens_at-output-requires
+    hours_of-requires
+    returns)

@@ -14,5 +14,5 @@ returns : tie.Need-returns
 unfolding refusal13
 returns c = λ j. not (c.bounded.ensures j)
 
-pub refusal13-spec : {M : Type 1} → statement M
-refusal13-spec = tie.close (tie.spec bounded-requires returns)
+pub refusal13_spec : {M : Type 1} → statement M
+refusal13_spec = tie.close (tie.spec bounded-requires returns)

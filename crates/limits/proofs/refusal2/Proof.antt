@@ -16,7 +16,7 @@ counted-requires-3 c κs = tt
 returns : tie.Need-returns
 unfolding refusal2
 returns c =
-    λ j. not (c.before.before.counted.ensures j && (c.before.counted2.ensures j && c.counted3.ensures j))
+    λ j. not (c.before.before.counted.ensures j && (c.before.counted-2.ensures j && c.counted-3.ensures j))
 
-pub refusal2-spec : {M : Type 1} → statement M
-refusal2-spec = tie.close (tie.spec counted-requires counted-requires-2 counted-requires-3 returns)
+pub refusal2_spec : {M : Type 1} → statement M
+refusal2_spec = tie.close (tie.spec counted-requires counted-requires-2 counted-requires-3 returns)

@@ -15,5 +15,5 @@ returns c =
     let case = c.before.before.args.case in
     λ j. not (c.before.between.ensures j && leb case.capacity.0 most_output)
 
-pub refusal3-spec : {M : Type 1} → statement M
-refusal3-spec = tie.close (tie.spec between-requires returns)
+pub refusal3_spec : {M : Type 1} → statement M
+refusal3_spec = tie.close (tie.spec between-requires returns)

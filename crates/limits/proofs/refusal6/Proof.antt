@@ -14,5 +14,5 @@ returns : tie.Need-returns
 unfolding refusal6
 returns c = λ j. not (c.before.climbs.ensures j && c.descends.ensures j)
 
-pub refusal6-spec : {M : Type 1} → statement M
-refusal6-spec = tie.close (tie.spec climbs-requires descends-requires returns)
+pub refusal6_spec : {M : Type 1} → statement M
+refusal6_spec = tie.close (tie.spec climbs-requires descends-requires returns)

@@ -13,5 +13,5 @@ returns : tie.Need-returns
 unfolding refusal8
 returns c = λ j. not (c.ordered.ensures j)
 
-pub refusal8-spec : {M : Type 1} → statement M
-refusal8-spec = tie.close (tie.spec ordered-requires returns)
+pub refusal8_spec : {M : Type 1} → statement M
+refusal8_spec = tie.close (tie.spec ordered-requires returns)

@@ -8,71 +8,71 @@ use Rattle.limits.specs.Steps.{stepped}
 use Rattle.limits.proofs.strict.Statement.{statement}
 use Rattle.limits.proofs.strict.Tie as tie
 
-abbrev invariant-loop : tie.invariant-loop
-invariant-loop steps up outputs so₀ i₀ so i =
+abbrev invariant-loop-i : tie.invariant-loop-i
+invariant-loop-i steps up outputs so₀ i₀ so i =
     (i ≤ steps) × (so ≡ every (λ i. stepped up (stage outputs i) (stage outputs (suc i))) i)
 
-abbrev decreases-loop : tie.decreases-loop
-decreases-loop steps up outputs so₀ i₀ so i = steps - i
+abbrev decreases-loop-i : tie.decreases-loop-i
+decreases-loop-i steps up outputs so₀ i₀ so i = steps - i
 
-loop-holds : tie.Need-loop-init invariant-loop decreases-loop
-loop-holds c = (omega arith, every_none _)
+loop-i-init : tie.Need-loop-i-init invariant-loop-i decreases-loop-i
+loop-i-init c = (omega arith, every_none _)
 
-mul-a : tie.Need-overflow-mul-a invariant-loop decreases-loop
-mul-a c = omega arith
+offset_bounds-outputs-i : tie.Need-offset_bounds-outputs-i invariant-loop-i decreases-loop-i
+offset_bounds-outputs-i c = omega arith
 
-array-copy-out-a : tie.Need-array-copy-out-a invariant-loop decreases-loop
-array-copy-out-a c = omega arith
+bounds-outputs-i : tie.Need-bounds-outputs-i invariant-loop-i decreases-loop-i
+bounds-outputs-i c = omega arith
 
-add-b : tie.Need-overflow-add-b invariant-loop decreases-loop
-add-b c = omega arith
+overflow_add-b : tie.Need-overflow_add-b invariant-loop-i decreases-loop-i
+overflow_add-b c = omega arith
 
-mul-b : tie.Need-overflow-mul-b invariant-loop decreases-loop
-mul-b c = omega arith
+offset_bounds-outputs-i-in-loop-i : tie.Need-offset_bounds-outputs-i-in-loop-i invariant-loop-i decreases-loop-i
+offset_bounds-outputs-i-in-loop-i c = omega arith
 
-array-copy-out-b : tie.Need-array-copy-out-b invariant-loop decreases-loop
-array-copy-out-b c = omega arith
+bounds-outputs-i-in-loop-i : tie.Need-bounds-outputs-i-in-loop-i invariant-loop-i decreases-loop-i
+bounds-outputs-i-in-loop-i c = omega arith
 
-way-requires : tie.Need-way-requires invariant-loop decreases-loop
-way-requires c κs = tt
+way-so-requires : tie.Need-way-so-requires invariant-loop-i decreases-loop-i
+way-so-requires c κs = tt
 
-add-i : tie.Need-overflow-add-i invariant-loop decreases-loop
-add-i c = omega arith
+overflow_add-i : tie.Need-overflow_add-i invariant-loop-i decreases-loop-i
+overflow_add-i c = omega arith
 
-loop-less : tie.Need-loop-smaller invariant-loop decreases-loop
-loop-less c = omega arith
+loop-i-smaller : tie.Need-loop-i-smaller invariant-loop-i decreases-loop-i
+loop-i-smaller c = omega arith
 
-loop-again : tie.Need-loop-preserved invariant-loop decreases-loop
-loop-again c =
+loop-i-preserved : tie.Need-loop-i-preserved invariant-loop-i decreases-loop-i
+loop-i-preserved c =
     let at = c.before.before.before.before.before.before.before.before in
-    let l = at.loop in
-    let outputs = at.before.args.t1 in
+    let l = at.loop-i in
+    let outputs = at.before.args.outputs in
     let up = at.before.args.up in (
       omega arith,
       every_more _ l.i l.invariant.1
-          (c.way.ensures ∙ (λ j. stepped up (stage_here outputs l.i j) (stage_next outputs l.i j))),
+          (c.way-so.ensures ∙ (λ j. stepped up (stage_here outputs l.i j) (stage_next outputs l.i j))),
     )
 
-returns : tie.Need-returns invariant-loop decreases-loop
+returns : tie.Need-returns invariant-loop-i decreases-loop-i
 returns c =
-    let l = c.before.loop in
+    let l = c.before.loop-i in
     let e : l.i ≡ c.before.before.args.steps = omega arith in
     l.invariant.1 ∙ ap (every _) e
 
-pub strict-spec : {M : Type 1} → statement M
-strict-spec =
+pub strict_spec : {M : Type 1} → statement M
+strict_spec =
     tie.close
     (tie.spec
-    invariant-loop
-    decreases-loop
-    loop-holds
-    mul-a
-    array-copy-out-a
-    add-b
-    mul-b
-    array-copy-out-b
-    way-requires
-    add-i
-    loop-less
-    loop-again
+    invariant-loop-i
+    decreases-loop-i
+    loop-i-init
+    offset_bounds-outputs-i
+    bounds-outputs-i
+    overflow_add-b
+    offset_bounds-outputs-i-in-loop-i
+    bounds-outputs-i-in-loop-i
+    way-so-requires
+    overflow_add-i
+    loop-i-smaller
+    loop-i-preserved
     returns)

@@ -18,5 +18,5 @@ multiple-requires c κs =
 returns : tie.Need-returns
 returns c = cc
 
-pub charged-spec : {M : Type 1} → statement M
-charged-spec = tie.close (tie.spec (λ c κs. search rules) (λ c. search rules) multiple-requires returns)
+pub charged_spec : {M : Type 1} → statement M
+charged_spec = tie.close (tie.spec (λ c κs. search rules) (λ c. search rules) multiple-requires returns)

@@ -6,13 +6,13 @@ use Rattle.cases.specs.Refusals.{within}
 use Rattle.orders.proofs.is_day.Statement.{statement}
 use Rattle.orders.proofs.is_day.Tie as tie
 
-in-year-requires : tie.Need-in-year-requires
-in-year-requires c κs = search rules
+in_year-requires : tie.Need-in_year-requires
+in_year-requires c κs = search rules
 
 returns : tie.Need-returns
 returns c =
     let hours = c.before.before.before.args.hours in
-    λ j. within short_day long_day hours.0 && c.in-year.ensures j
+    λ j. within short_day long_day hours.0 && c.in_year.ensures j
 
-pub is-day-spec : {M : Type 1} → statement M
-is-day-spec = tie.close (tie.spec in-year-requires returns)
+pub is_day_spec : {M : Type 1} → statement M
+is_day_spec = tie.close (tie.spec in_year-requires returns)

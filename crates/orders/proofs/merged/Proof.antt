@@ -10,54 +10,54 @@ use Rattle.orders.specs.Marked.{one_of}
 use Rattle.orders.proofs.merged.Statement.{statement}
 use Rattle.orders.proofs.merged.Tie as tie
 
-abbrev invariant-loop : tie.invariant-loop
-invariant-loop n ons offs orders₀ k₀ orders k = Filled 0 (λ i. one_of (get_or ons i 0) (get_or offs i 0)) n most_hours orders k
+abbrev invariant-loop-k : tie.invariant-loop-k
+invariant-loop-k n ons offs orders₀ k₀ orders k = Filled 0 (λ i. one_of (get_or ons i 0) (get_or offs i 0)) n most_hours orders k
 
-abbrev decreases-loop : tie.decreases-loop
-decreases-loop n ons offs orders₀ k₀ orders k = n - k
+abbrev decreases-loop-k : tie.decreases-loop-k
+decreases-loop-k n ons offs orders₀ k₀ orders k = n - k
 
-loop-holds : tie.Need-loop-init invariant-loop decreases-loop
-loop-holds c = filled_start 0 _ _ most_hours
+loop-k-init : tie.Need-loop-k-init invariant-loop-k decreases-loop-k
+loop-k-init c = filled_start 0 _ _ most_hours
 
-array-read-one-of : tie.Need-array-read-one-of invariant-loop decreases-loop
-array-read-one-of c = omega arith
+bounds-ons-k : tie.Need-bounds-ons-k invariant-loop-k decreases-loop-k
+bounds-ons-k c = omega arith
 
-array-read-one-of-2 : tie.Need-array-read-one-of-2 invariant-loop decreases-loop
-array-read-one-of-2 c = omega arith
+bounds-offs-k : tie.Need-bounds-offs-k invariant-loop-k decreases-loop-k
+bounds-offs-k c = omega arith
 
-one-of-requires : tie.Need-one-of-requires invariant-loop decreases-loop
-one-of-requires c κs = search rules
+one_of-requires : tie.Need-one_of-requires invariant-loop-k decreases-loop-k
+one_of-requires c κs = search rules
 
-array-write-orders : tie.Need-array-write-orders invariant-loop decreases-loop
-array-write-orders c = omega arith
+bounds-orders-k : tie.Need-bounds-orders-k invariant-loop-k decreases-loop-k
+bounds-orders-k c = omega arith
 
-add-k : tie.Need-overflow-add-k invariant-loop decreases-loop
-add-k c = omega arith
+overflow_add-k : tie.Need-overflow_add-k invariant-loop-k decreases-loop-k
+overflow_add-k c = omega arith
 
-loop-less : tie.Need-loop-smaller invariant-loop decreases-loop
-loop-less c = omega arith
+loop-k-smaller : tie.Need-loop-k-smaller invariant-loop-k decreases-loop-k
+loop-k-smaller c = omega arith
 
-loop-again : tie.Need-loop-preserved invariant-loop decreases-loop
-loop-again c =
+loop-k-preserved : tie.Need-loop-k-preserved invariant-loop-k decreases-loop-k
+loop-k-preserved c =
     let d = c.before.before in
-    filled_step 0 _ d.before.args.n most_hours c.one_of.result d.loop.invariant (omega arith) (omega arith)
+    filled_step 0 _ d.before.args.n most_hours c.one_of.result d.loop-k.invariant (omega arith) (omega arith)
     c.one_of.ensures
 
-returns : tie.Need-returns invariant-loop decreases-loop
-returns c = filled_end 0 _ c.before.before.args.n most_hours c.before.loop.invariant (omega arith)
+returns : tie.Need-returns invariant-loop-k decreases-loop-k
+returns c = filled_end 0 _ c.before.before.args.n most_hours c.before.loop-k.invariant (omega arith)
 
-pub merged-spec : {M : Type 1} → statement M
-merged-spec =
+pub merged_spec : {M : Type 1} → statement M
+merged_spec =
     tie.close
     (tie.spec
-    invariant-loop
-    decreases-loop
-    loop-holds
-    array-read-one-of
-    array-read-one-of-2
-    one-of-requires
-    array-write-orders
-    add-k
-    loop-less
-    loop-again
+    invariant-loop-k
+    decreases-loop-k
+    loop-k-init
+    bounds-ons-k
+    bounds-offs-k
+    one_of-requires
+    bounds-orders-k
+    overflow_add-k
+    loop-k-smaller
+    loop-k-preserved
     returns)

@@ -6,21 +6,21 @@ use Rattle.cases.proofs.SetsLaws.{bytes_written}
 use Rattle.writer.proofs.put_bytes.Statement.{statement}
 use Rattle.writer.proofs.put_bytes.Tie as tie
 
-slice-write-out : tie.Need-slice-write-out
-slice-write-out c = search rules
+bounds-out-at : tie.Need-bounds-out-at
+bounds-out-at c = search rules
 
-add-out : tie.Need-overflow-add-out
-add-out c = search rules
+overflow_add-out : tie.Need-overflow_add-out
+overflow_add-out c = search rules
 
-slice-write-out-2 : tie.Need-slice-write-out-2
-slice-write-out-2 c = simp length-set (omega arith)
+bounds-out-at-2 : tie.Need-bounds-out-at-2
+bounds-out-at-2 c = simp length-set (omega arith)
 
-same_length : tie.Need-same-length
-same_length c = search rules
+shape_of-out : tie.Need-shape_of-out
+shape_of-out c = search rules
 
 returns : tie.Need-returns
 returns c =
     bytes_written c.args.a c.args.b (search rules) (search rules) c.args.out.now c.args.at
 
-pub put-bytes-spec : {M : Type 1} → statement M
-put-bytes-spec = tie.close (tie.spec slice-write-out add-out slice-write-out-2 same_length returns)
+pub put_bytes_spec : {M : Type 1} → statement M
+put_bytes_spec = tie.close (tie.spec bounds-out-at overflow_add-out bounds-out-at-2 shape_of-out returns)

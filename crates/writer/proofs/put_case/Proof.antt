@@ -21,68 +21,68 @@ room : (s : tie.Start) → file_length s.args.case ≤ length s.args.out.now
 room s = omega (arith, length_bytes_of s.args.case)
 
 -- the entry, from what is written
-abbrev pairs : tie.After-put-pairs-arg → tie.Start
+abbrev pairs : tie.After-put_pairs-arg-1 → tie.Start
 pairs c = c.before.before.before.before.before.before.before
 
-abbrev unit : tie.After-put-unit-arg → tie.Start
+abbrev unit : tie.After-put_unit-arg-1 → tie.Start
 unit c = pairs c.before.before.before.before
 
-abbrev rise : tie.After-put-stages-arg → tie.Start
+abbrev rise : tie.After-put_stages-arg-1 → tie.Start
 rise c = unit c.before.before.before.before
 
-abbrev fall : tie.After-put-stages-arg2 → tie.Start
+abbrev fall : tie.After-put_stages-arg-2-1 → tie.Start
 fall c = rise c.before.before.before.before
 
-abbrev hours : tie.After-put-hours-arg → tie.Start
+abbrev hours : tie.After-put_hours-arg-1 → tie.Start
 hours c = fall c.before.before.before.before
 
-abbrev form : tie.After-put-word-arg → tie.Start
+abbrev form : tie.After-put_word-arg-1 → tie.Start
 form c = hours c.before.before.before.before
 
-mul-falls-at : tie.Need-overflow-mul-falls-at
-mul-falls-at c = omega (arith, room c.before.before.before.before)
+overflow_mul-falls_at : tie.Need-overflow_mul-falls_at
+overflow_mul-falls_at c = omega (arith, room c.before.before.before.before)
 
-add-falls-at : tie.Need-overflow-add-falls-at
-add-falls-at c = omega (arith, room c.before.before.before.before)
+overflow_add-falls_at : tie.Need-overflow_add-falls_at
+overflow_add-falls_at c = omega (arith, room c.before.before.before.before)
 
-mul-hours-at : tie.Need-overflow-mul-hours-at
-mul-hours-at c = let s = c.before.before.before.before.before in omega (arith, room s)
+overflow_mul-hours_at : tie.Need-overflow_mul-hours_at
+overflow_mul-hours_at c = let s = c.before.before.before.before.before in omega (arith, room s)
 
-add-hours-at : tie.Need-overflow-add-hours-at
-add-hours-at c = let s = c.before.before.before.before.before in omega (arith, room s)
+overflow_add-hours_at : tie.Need-overflow_add-hours_at
+overflow_add-hours_at c = let s = c.before.before.before.before.before in omega (arith, room s)
 
-mul-form-at : tie.Need-overflow-mul-form-at
-mul-form-at c = let s = c.before.before.before.before.before.before in omega (arith, room s)
+overflow_mul-form_at : tie.Need-overflow_mul-form_at
+overflow_mul-form_at c = let s = c.before.before.before.before.before.before in omega (arith, room s)
 
-add-form-at : tie.Need-overflow-add-form-at
-add-form-at c = let s = c.before.before.before.before.before.before in omega (arith, room s)
+overflow_add-form_at : tie.Need-overflow_add-form_at
+overflow_add-form_at c = let s = c.before.before.before.before.before.before in omega (arith, room s)
 
-put-pairs-requires : tie.Need-put-pairs-requires
-put-pairs-requires c κs = let r = room (pairs c) in search rules
+put_pairs-requires : tie.Need-put_pairs-requires
+put_pairs-requires c κs = let r = room (pairs c) in search rules
 
-put-unit-requires : tie.Need-put-unit-requires
-put-unit-requires c κs = let r = room (unit c) in search rules
+put_unit-requires : tie.Need-put_unit-requires
+put_unit-requires c κs = let r = room (unit c) in search rules
 
-put-stages-requires : tie.Need-put-stages-requires
-put-stages-requires c κs =
+put_stages-requires : tie.Need-put_stages-requires
+put_stages-requires c κs =
     let r = room (rise c) in
     let n = (limits (rise c)).rises_le in
     search rules
 
-put-stages-requires-2 : tie.Need-put-stages-requires-2
-put-stages-requires-2 c κs =
+put_stages-requires-2 : tie.Need-put_stages-requires-2
+put_stages-requires-2 c κs =
     let r = room (fall c) in
     let n = (limits (fall c)).falls_le in
     search rules
 
-put-hours-requires : tie.Need-put-hours-requires
-put-hours-requires c κs = let r = room (hours c) in search rules
+put_hours-requires : tie.Need-put_hours-requires
+put_hours-requires c κs = let r = room (hours c) in search rules
 
-put-word-requires : tie.Need-put-word-requires
-put-word-requires c κs = let r = room (form c) in search rules
+put_word-requires : tie.Need-put_word-requires
+put_word-requires c κs = let r = room (form c) in search rules
 
-same_length : tie.Need-same-length
-same_length c = search rules
+shape_of-out : tie.Need-shape_of-out
+shape_of-out c = search rules
 
 returns : tie.Need-returns
 returns c =
@@ -93,27 +93,27 @@ returns c =
     let two = three.before.before.before.before in
     let one = two.before.before.before.before in
     let args = (pairs one.before).args in
-    case_written args.case args.out.now one.put-pairs.ensures two.put-unit.ensures
-    (three.put-stages.ensures ∙ ap (sets _ _) (rise_section args.case))
-    (four.put-stages2.ensures ∙ ap (sets _ _) (fall_section args.case))
-    five.put-hours.ensures
+    case_written args.case args.out.now one.put_pairs.ensures two.put_unit.ensures
+    (three.put_stages.ensures ∙ ap (sets _ _) (rise_section args.case))
+    (four.put_stages-2.ensures ∙ ap (sets _ _) (fall_section args.case))
+    five.put_hours.ensures
     (six.put_word.ensures ∙ ap (sets _ _) (form_section args.case))
 
-pub put-case-spec : {M : Type 1} → statement M
-put-case-spec =
+pub put_case_spec : {M : Type 1} → statement M
+put_case_spec =
     tie.close
     (tie.spec
-    mul-falls-at
-    add-falls-at
-    mul-hours-at
-    add-hours-at
-    mul-form-at
-    add-form-at
-    put-pairs-requires
-    put-unit-requires
-    put-stages-requires
-    put-stages-requires-2
-    put-hours-requires
-    put-word-requires
-    same_length
+    overflow_mul-falls_at
+    overflow_add-falls_at
+    overflow_mul-hours_at
+    overflow_add-hours_at
+    overflow_mul-form_at
+    overflow_add-form_at
+    put_pairs-requires
+    put_unit-requires
+    put_stages-requires
+    put_stages-requires-2
+    put_hours-requires
+    put_word-requires
+    shape_of-out
     returns)

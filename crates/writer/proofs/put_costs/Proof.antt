@@ -5,17 +5,17 @@ use Rattle.cases.proofs.SetsLaws.{sets_both}
 use Rattle.writer.proofs.put_costs.Statement.{statement}
 use Rattle.writer.proofs.put_costs.Tie as tie
 
-put-mills-requires : tie.Need-put-mills-requires
-put-mills-requires c κs = search rules
+put_mills-requires : tie.Need-put_mills-requires
+put_mills-requires c κs = search rules
 
-add-put-mills : tie.Need-overflow-add-put-mills
-add-put-mills c = search rules
+overflow_add-at : tie.Need-overflow_add-at
+overflow_add-at c = search rules
 
-put-mills-requires-2 : tie.Need-put-mills-requires-2
-put-mills-requires-2 c κs = search rules
+put_mills-requires-2 : tie.Need-put_mills-requires-2
+put_mills-requires-2 c κs = search rules
 
-same_length : tie.Need-same-length
-same_length c = search rules
+shape_of-out : tie.Need-shape_of-out
+shape_of-out c = search rules
 
 returns : tie.Need-returns
 returns c =
@@ -23,8 +23,8 @@ returns c =
     let first = second.before.before.before.before in
     let args = first.before.before.before.args in
     sets_both 4 (unsigned args.a.0) (unsigned args.b.0) args.out.now args.at
-    first.put-mills.ensures second.put-mills2.ensures
+    first.put_mills.ensures second.put_mills-2.ensures
 
-pub put-costs-spec : {M : Type 1} → statement M
-put-costs-spec =
-    tie.close (tie.spec put-mills-requires add-put-mills put-mills-requires-2 same_length returns)
+pub put_costs_spec : {M : Type 1} → statement M
+put_costs_spec =
+    tie.close (tie.spec put_mills-requires overflow_add-at put_mills-requires-2 shape_of-out returns)

@@ -14,91 +14,91 @@ use Rattle.writer.proofs.SectionsLaws.{hours_section}
 use Rattle.writer.proofs.put_hours.Statement.{statement}
 use Rattle.writer.proofs.put_hours.Tie as tie
 
-abbrev invariant-loop : tie.invariant-loop
-invariant-loop out₀ at prices orders n i₀ out i =
+abbrev invariant-loop-i : tie.invariant-loop-i
+invariant-loop-i out₀ at prices orders n i₀ out i =
     let hour : ℕ → List ℕ =
     λ k. field_bytes (4 ∷ 1 ∷ []) (unsigned (get_or prices k no_mills).0 ∷ get_or orders k 0 ∷ []) in
     (i ≤ n) × (length out ≡ length out₀) × (out ≡ sets out₀ at (joined hour i))
 
-abbrev decreases-loop : tie.decreases-loop
-decreases-loop out₀ at prices orders n i₀ out i = n - i
+abbrev decreases-loop-i : tie.decreases-loop-i
+decreases-loop-i out₀ at prices orders n i₀ out i = n - i
 
 -- the record is within the limits
-limits : (s : tie.Start invariant-loop decreases-loop) → Limits s.args.case
+limits : (s : tie.Start invariant-loop-i decreases-loop-i) → Limits s.args.case
 limits s = limits_of_refusal_of s.args.case s.requires.0
 
-loop-holds : tie.Need-loop-init invariant-loop decreases-loop
-loop-holds c =
+loop-i-init : tie.Need-loop-i-init invariant-loop-i decreases-loop-i
+loop-i-init c =
     let s = c.before.before.before in
     (omega arith, refl, sets_start _ s.args.out.now s.args.at)
 
-mul-price : tie.Need-overflow-mul-price invariant-loop decreases-loop
-mul-price c = omega arith
+offset_bounds-prices-i : tie.Need-offset_bounds-prices-i invariant-loop-i decreases-loop-i
+offset_bounds-prices-i c = omega arith
 
-array-copy-out-price : tie.Need-array-copy-out-price invariant-loop decreases-loop
-array-copy-out-price c =
+bounds-prices-i : tie.Need-bounds-prices-i invariant-loop-i decreases-loop-i
+bounds-prices-i c =
     let s = c.before.before.before.before.before in
     omega (arith, (limits s).hours_le)
 
-mul-put-hour : tie.Need-overflow-mul-put-hour invariant-loop decreases-loop
-mul-put-hour c = omega arith
+overflow_mul-i : tie.Need-overflow_mul-i invariant-loop-i decreases-loop-i
+overflow_mul-i c = omega arith
 
-add-put-hour : tie.Need-overflow-add-put-hour invariant-loop decreases-loop
-add-put-hour c = omega arith
+overflow_add-at : tie.Need-overflow_add-at invariant-loop-i decreases-loop-i
+overflow_add-at c = omega arith
 
-array-read-put-hour : tie.Need-array-read-put-hour invariant-loop decreases-loop
-array-read-put-hour c =
+bounds-orders-i : tie.Need-bounds-orders-i invariant-loop-i decreases-loop-i
+bounds-orders-i c =
     let s = c.before.before.before.before.before.before.before in
     omega (arith, (limits s).hours_le)
 
-put-hour-requires : tie.Need-put-hour-requires invariant-loop decreases-loop
-put-hour-requires c κs = omega arith
+put_hour-requires : tie.Need-put_hour-requires invariant-loop-i decreases-loop-i
+put_hour-requires c κs = omega arith
 
-add-i : tie.Need-overflow-add-i invariant-loop decreases-loop
-add-i c = omega arith
+overflow_add-i : tie.Need-overflow_add-i invariant-loop-i decreases-loop-i
+overflow_add-i c = omega arith
 
-loop-less : tie.Need-loop-smaller invariant-loop decreases-loop
-loop-less c = omega arith
+loop-i-smaller : tie.Need-loop-i-smaller invariant-loop-i decreases-loop-i
+loop-i-smaller c = omega arith
 
-loop-again : tie.Need-loop-preserved invariant-loop decreases-loop
-loop-again c =
+loop-i-preserved : tie.Need-loop-i-preserved invariant-loop-i decreases-loop-i
+loop-i-preserved c =
     let call = c.before.before in
-    let l = call.before.before.before.before.loop in
+    let l = call.before.before.before.before.loop-i in
     let s = call.before.before.before.before.before.before.before.before in
     let price : ℕ → ℕ = λ k. unsigned (get_or s.args.case.prices k no_mills).0 in
     let order : ℕ → ℕ = λ k. get_or s.args.case.orders k 0 in (
       omega arith,
-      call.put-hour.auto.0 ∙ l.invariant.1,
+      call.put_hour.auto.out ∙ l.invariant.1,
       sets_step 5 _ (λ k. length_field_bytes (4 ∷ 1 ∷ []) (price k ∷ order k ∷ [])) s.args.out.now s.args.at
-          l.i l.invariant.2 call.put-hour.ensures,
+          l.i l.invariant.2 call.put_hour.ensures,
     )
 
-same_length : tie.Need-same-length invariant-loop decreases-loop
-same_length c = c.before.loop.invariant.1
+shape_of-out : tie.Need-shape_of-out invariant-loop-i decreases-loop-i
+shape_of-out c = c.before.loop-i.invariant.1
 
-returns : tie.Need-returns invariant-loop decreases-loop
+returns : tie.Need-returns invariant-loop-i decreases-loop-i
 returns c =
     let s = c.before.before.before.before.before in
     let case = s.args.case in
-    let l = c.before.loop in
+    let l = c.before.loop-i in
     sets_end _ s.args.out.now s.args.at l.i case.hours l.invariant.2 (omega arith)
     ∙ ap (sets s.args.out.now s.args.at) (hours_section case)
 
-pub put-hours-spec : {M : Type 1} → statement M
-put-hours-spec =
+pub put_hours_spec : {M : Type 1} → statement M
+put_hours_spec =
     tie.close
     (tie.spec
-    invariant-loop
-    decreases-loop
-    loop-holds
-    mul-price
-    array-copy-out-price
-    mul-put-hour
-    add-put-hour
-    array-read-put-hour
-    put-hour-requires
-    add-i
-    loop-less
-    loop-again
-    same_length
+    invariant-loop-i
+    decreases-loop-i
+    loop-i-init
+    offset_bounds-prices-i
+    bounds-prices-i
+    overflow_mul-i
+    overflow_add-at
+    bounds-orders-i
+    put_hour-requires
+    overflow_add-i
+    loop-i-smaller
+    loop-i-preserved
+    shape_of-out
     returns)

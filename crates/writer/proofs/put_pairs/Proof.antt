@@ -15,53 +15,53 @@ short : (s : tie.Start) → file_length s.args.case < words
 short s = file_short s.args.case s.requires.0
 
 -- the entry, from each pair
-abbrev start2 : tie.After-put-place-arg2 → tie.Start
+abbrev start2 : tie.After-put_place-arg-2-1 → tie.Start
 start2 c = c.before.before.before.before.before.before.before.before.before
 
-abbrev start3 : tie.After-put-place-arg3 → tie.Start
+abbrev start3 : tie.After-put_place-arg-3-1 → tie.Start
 start3 c = start2 c.before.before.before.before
 
-abbrev start4 : tie.After-put-place-arg4 → tie.Start
+abbrev start4 : tie.After-put_place-arg-4-1 → tie.Start
 start4 c = start3 c.before.before.before.before
 
-abbrev start5 : tie.After-put-place-arg5 → tie.Start
+abbrev start5 : tie.After-put_place-arg-5-1 → tie.Start
 start5 c = start4 c.before.before.before.before
 
-mul-rises : tie.Need-overflow-mul-rises
-mul-rises c = omega (arith, short c.before.before)
+overflow_mul-rises : tie.Need-overflow_mul-rises
+overflow_mul-rises c = omega (arith, short c.before.before)
 
-mul-falls : tie.Need-overflow-mul-falls
-mul-falls c = omega (arith, short c.before.before.before)
+overflow_mul-falls : tie.Need-overflow_mul-falls
+overflow_mul-falls c = omega (arith, short c.before.before.before)
 
-mul-hours : tie.Need-overflow-mul-hours
-mul-hours c = omega (arith, short c.before.before.before.before)
+overflow_mul-hours : tie.Need-overflow_mul-hours
+overflow_mul-hours c = omega (arith, short c.before.before.before.before)
 
-add-falls-at : tie.Need-overflow-add-falls-at
-add-falls-at c = omega (arith, short c.before.before.before.before)
+overflow_add-falls_at : tie.Need-overflow_add-falls_at
+overflow_add-falls_at c = omega (arith, short c.before.before.before.before)
 
-add-hours-at : tie.Need-overflow-add-hours-at
-add-hours-at c = omega (arith, short c.before.before.before.before)
+overflow_add-hours_at : tie.Need-overflow_add-hours_at
+overflow_add-hours_at c = omega (arith, short c.before.before.before.before)
 
-add-form-at : tie.Need-overflow-add-form-at
-add-form-at c = omega (arith, short c.before.before.before.before)
+overflow_add-form_at : tie.Need-overflow_add-form_at
+overflow_add-form_at c = omega (arith, short c.before.before.before.before)
 
-put-place-requires : tie.Need-put-place-requires
-put-place-requires c κs = search rules
+put_place-requires : tie.Need-put_place-requires
+put_place-requires c κs = search rules
 
-put-place-requires-2 : tie.Need-put-place-requires-2
-put-place-requires-2 c κs = let r = short (start2 c) in search rules
+put_place-requires-2 : tie.Need-put_place-requires-2
+put_place-requires-2 c κs = let r = short (start2 c) in search rules
 
-put-place-requires-3 : tie.Need-put-place-requires-3
-put-place-requires-3 c κs = let r = short (start3 c) in search rules
+put_place-requires-3 : tie.Need-put_place-requires-3
+put_place-requires-3 c κs = let r = short (start3 c) in search rules
 
-put-place-requires-4 : tie.Need-put-place-requires-4
-put-place-requires-4 c κs = let r = short (start4 c) in search rules
+put_place-requires-4 : tie.Need-put_place-requires-4
+put_place-requires-4 c κs = let r = short (start4 c) in search rules
 
-put-place-requires-5 : tie.Need-put-place-requires-5
-put-place-requires-5 c κs = let r = short (start5 c) in search rules
+put_place-requires-5 : tie.Need-put_place-requires-5
+put_place-requires-5 c κs = let r = short (start5 c) in search rules
 
-same_length : tie.Need-same-length
-same_length c = search rules
+shape_of-out : tie.Need-shape_of-out
+shape_of-out c = search rules
 
 returns : tie.Need-returns
 returns c =
@@ -71,23 +71,23 @@ returns c =
     let two = three.before.before.before.before in
     let one = two.before.before.before.before in
     let args = (start2 two.before).args in
-    pairs_written args.case args.out.now one.put-place.ensures two.put-place2.ensures
-    three.put-place3.ensures four.put-place4.ensures five.put-place5.ensures
+    pairs_written args.case args.out.now one.put_place.ensures two.put_place-2.ensures
+    three.put_place-3.ensures four.put_place-4.ensures five.put_place-5.ensures
 
-pub put-pairs-spec : {M : Type 1} → statement M
-put-pairs-spec =
+pub put_pairs_spec : {M : Type 1} → statement M
+put_pairs_spec =
     tie.close
     (tie.spec
-    mul-rises
-    mul-falls
-    mul-hours
-    add-falls-at
-    add-hours-at
-    add-form-at
-    put-place-requires
-    put-place-requires-2
-    put-place-requires-3
-    put-place-requires-4
-    put-place-requires-5
-    same_length
+    overflow_mul-rises
+    overflow_mul-falls
+    overflow_mul-hours
+    overflow_add-falls_at
+    overflow_add-hours_at
+    overflow_add-form_at
+    put_place-requires
+    put_place-requires-2
+    put_place-requires-3
+    put_place-requires-4
+    put_place-requires-5
+    shape_of-out
     returns)

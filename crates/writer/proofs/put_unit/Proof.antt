@@ -4,47 +4,47 @@ use Rattle.cases.proofs.SetsLaws.{unit_written}
 use Rattle.writer.proofs.put_unit.Statement.{statement}
 use Rattle.writer.proofs.put_unit.Tie as tie
 
-put-pair-requires : tie.Need-put-pair-requires
-put-pair-requires c κs = search rules
+put_pair-requires : tie.Need-put_pair-requires
+put_pair-requires c κs = search rules
 
-add-put-pair : tie.Need-overflow-add-put-pair
-add-put-pair c = search rules
+overflow_add-put_pair : tie.Need-overflow_add-put_pair
+overflow_add-put_pair c = search rules
 
-put-pair-requires-2 : tie.Need-put-pair-requires-2
-put-pair-requires-2 c κs = search rules
+put_pair-requires-2 : tie.Need-put_pair-requires-2
+put_pair-requires-2 c κs = search rules
 
-add-put-pair-2 : tie.Need-overflow-add-put-pair-2
-add-put-pair-2 c = search rules
+overflow_add-put_pair-2 : tie.Need-overflow_add-put_pair-2
+overflow_add-put_pair-2 c = search rules
 
-put-pair-requires-3 : tie.Need-put-pair-requires-3
-put-pair-requires-3 c κs = search rules
+put_pair-requires-3 : tie.Need-put_pair-requires-3
+put_pair-requires-3 c κs = search rules
 
-add-put-costs : tie.Need-overflow-add-put-costs
-add-put-costs c = search rules
+overflow_add-put_costs : tie.Need-overflow_add-put_costs
+overflow_add-put_costs c = search rules
 
-put-costs-requires : tie.Need-put-costs-requires
-put-costs-requires c κs = search rules
+put_costs-requires : tie.Need-put_costs-requires
+put_costs-requires c κs = search rules
 
-add-put-costs-2 : tie.Need-overflow-add-put-costs-2
-add-put-costs-2 c = search rules
+overflow_add-put_costs-2 : tie.Need-overflow_add-put_costs-2
+overflow_add-put_costs-2 c = search rules
 
-put-costs-requires-2 : tie.Need-put-costs-requires-2
-put-costs-requires-2 c κs = search rules
+put_costs-requires-2 : tie.Need-put_costs-requires-2
+put_costs-requires-2 c κs = search rules
 
-add-put-pair-3 : tie.Need-overflow-add-put-pair-3
-add-put-pair-3 c = search rules
+overflow_add-put_pair-3 : tie.Need-overflow_add-put_pair-3
+overflow_add-put_pair-3 c = search rules
 
-put-pair-requires-4 : tie.Need-put-pair-requires-4
-put-pair-requires-4 c κs = search rules
+put_pair-requires-4 : tie.Need-put_pair-requires-4
+put_pair-requires-4 c κs = search rules
 
-add-put-bytes : tie.Need-overflow-add-put-bytes
-add-put-bytes c = search rules
+overflow_add-put_bytes : tie.Need-overflow_add-put_bytes
+overflow_add-put_bytes c = search rules
 
-put-bytes-requires : tie.Need-put-bytes-requires
-put-bytes-requires c κs = search rules
+put_bytes-requires : tie.Need-put_bytes-requires
+put_bytes-requires c κs = search rules
 
-same_length : tie.Need-same-length
-same_length c = search rules
+shape_of-out : tie.Need-shape_of-out
+shape_of-out c = search rules
 
 returns : tie.Need-returns
 returns c =
@@ -56,26 +56,26 @@ returns c =
     let two = three.before.before.before.before in
     let one = two.before.before.before.before in
     let args = one.before.before.before.args in
-    unit_written args.case args.out.now one.put-pair.ensures two.put-pair2.ensures
-    three.put-pair3.ensures four.put-costs.ensures five.put-costs2.ensures six.put-pair4.ensures
-    seven.put-bytes.ensures
+    unit_written args.case args.out.now one.put_pair.ensures two.put_pair-2.ensures
+    three.put_pair-3.ensures four.put_costs.ensures five.put_costs-2.ensures six.put_pair-4.ensures
+    seven.put_bytes.ensures
 
-pub put-unit-spec : {M : Type 1} → statement M
-put-unit-spec =
+pub put_unit_spec : {M : Type 1} → statement M
+put_unit_spec =
     tie.close
     (tie.spec
-    put-pair-requires
-    add-put-pair
-    put-pair-requires-2
-    add-put-pair-2
-    put-pair-requires-3
-    add-put-costs
-    put-costs-requires
-    add-put-costs-2
-    put-costs-requires-2
-    add-put-pair-3
-    put-pair-requires-4
-    add-put-bytes
-    put-bytes-requires
-    same_length
+    put_pair-requires
+    overflow_add-put_pair
+    put_pair-requires-2
+    overflow_add-put_pair-2
+    put_pair-requires-3
+    overflow_add-put_costs
+    put_costs-requires
+    overflow_add-put_costs-2
+    put_costs-requires-2
+    overflow_add-put_pair-3
+    put_pair-requires-4
+    overflow_add-put_bytes
+    put_bytes-requires
+    shape_of-out
     returns)

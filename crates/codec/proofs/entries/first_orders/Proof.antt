@@ -9,47 +9,47 @@ use Rattle.cases.proofs.FilledLaws.{Filled, filled_start, filled_step, filled_en
 use Rattle.codec.proofs.entries.first_orders.Statement.{statement}
 use Rattle.codec.proofs.entries.first_orders.Tie as tie
 
-abbrev invariant-loop : tie.invariant-loop
-invariant-loop n orders first₀ i₀ first i = Filled 0 (λ i. get_or orders i 0) n most_hours first i
+abbrev invariant-loop-i : tie.invariant-loop-i
+invariant-loop-i n orders first₀ i₀ first i = Filled 0 (λ i. get_or orders i 0) n most_hours first i
 
-abbrev decreases-loop : tie.decreases-loop
-decreases-loop n orders first₀ i₀ first i = n - i
+abbrev decreases-loop-i : tie.decreases-loop-i
+decreases-loop-i n orders first₀ i₀ first i = n - i
 
-loop-holds : tie.Need-loop-init invariant-loop decreases-loop
-loop-holds c = filled_start 0 _ _ most_hours
+loop-i-init : tie.Need-loop-i-init invariant-loop-i decreases-loop-i
+loop-i-init c = filled_start 0 _ _ most_hours
 
-array-read-first : tie.Need-array-read-first invariant-loop decreases-loop
-array-read-first c = omega arith
+bounds-orders-i : tie.Need-bounds-orders-i invariant-loop-i decreases-loop-i
+bounds-orders-i c = omega arith
 
-array-write-first : tie.Need-array-write-first invariant-loop decreases-loop
-array-write-first c = omega arith
+bounds-first-i : tie.Need-bounds-first-i invariant-loop-i decreases-loop-i
+bounds-first-i c = omega arith
 
-add-i : tie.Need-overflow-add-i invariant-loop decreases-loop
-add-i c = omega arith
+overflow_add-i : tie.Need-overflow_add-i invariant-loop-i decreases-loop-i
+overflow_add-i c = omega arith
 
-loop-less : tie.Need-loop-smaller invariant-loop decreases-loop
-loop-less c = omega arith
+loop-i-smaller : tie.Need-loop-i-smaller invariant-loop-i decreases-loop-i
+loop-i-smaller c = omega arith
 
-loop-again : tie.Need-loop-preserved invariant-loop decreases-loop
-loop-again c =
-    let l = c.before.loop in
+loop-i-preserved : tie.Need-loop-i-preserved invariant-loop-i decreases-loop-i
+loop-i-preserved c =
+    let l = c.before.loop-i in
     let args = c.before.before.args in
-    let x = get_or args.t1 l.i 0 in
+    let x = get_or args.orders l.i 0 in
     filled_step 0 _ args.n most_hours x l.invariant (omega arith) (omega arith) refl
 
-returns : tie.Need-returns invariant-loop decreases-loop
-returns c = filled_end 0 _ c.before.before.args.n most_hours c.before.loop.invariant (omega arith)
+returns : tie.Need-returns invariant-loop-i decreases-loop-i
+returns c = filled_end 0 _ c.before.before.args.n most_hours c.before.loop-i.invariant (omega arith)
 
-pub first-orders-spec : {M : Type 1} → statement M
-first-orders-spec =
+pub first_orders_spec : {M : Type 1} → statement M
+first_orders_spec =
     tie.close
     (tie.spec
-    invariant-loop
-    decreases-loop
-    loop-holds
-    array-read-first
-    array-write-first
-    add-i
-    loop-less
-    loop-again
+    invariant-loop-i
+    decreases-loop-i
+    loop-i-init
+    bounds-orders-i
+    bounds-first-i
+    overflow_add-i
+    loop-i-smaller
+    loop-i-preserved
     returns)

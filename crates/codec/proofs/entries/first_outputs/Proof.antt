@@ -10,55 +10,55 @@ use Rattle.cases.proofs.FilledLaws.{Filled, filled_start, filled_step, filled_en
 use Rattle.codec.proofs.entries.first_outputs.Statement.{statement}
 use Rattle.codec.proofs.entries.first_outputs.Tie as tie
 
-abbrev invariant-loop : tie.invariant-loop
-invariant-loop n outputs first₀ i₀ first i = Filled no_output (λ i. get_or outputs i no_output) n most_stages first i
+abbrev invariant-loop-i : tie.invariant-loop-i
+invariant-loop-i n outputs first₀ i₀ first i = Filled no_output (λ i. get_or outputs i no_output) n most_stages first i
 
-abbrev decreases-loop : tie.decreases-loop
-decreases-loop n outputs first₀ i₀ first i = n - i
+abbrev decreases-loop-i : tie.decreases-loop-i
+decreases-loop-i n outputs first₀ i₀ first i = n - i
 
-loop-holds : tie.Need-loop-init invariant-loop decreases-loop
-loop-holds c = filled_start no_output _ _ most_stages
+loop-i-init : tie.Need-loop-i-init invariant-loop-i decreases-loop-i
+loop-i-init c = filled_start no_output _ _ most_stages
 
-mul-output : tie.Need-overflow-mul-output invariant-loop decreases-loop
-mul-output c = omega arith
+offset_bounds-outputs-i : tie.Need-offset_bounds-outputs-i invariant-loop-i decreases-loop-i
+offset_bounds-outputs-i c = omega arith
 
-array-copy-out-output : tie.Need-array-copy-out-output invariant-loop decreases-loop
-array-copy-out-output c = omega arith
+bounds-outputs-i : tie.Need-bounds-outputs-i invariant-loop-i decreases-loop-i
+bounds-outputs-i c = omega arith
 
-mul-first : tie.Need-overflow-mul-first invariant-loop decreases-loop
-mul-first c = omega arith
+offset_bounds-first-i : tie.Need-offset_bounds-first-i invariant-loop-i decreases-loop-i
+offset_bounds-first-i c = omega arith
 
-array-set-from-first : tie.Need-array-set-from-first invariant-loop decreases-loop
-array-set-from-first c = omega arith
+bounds-first-i : tie.Need-bounds-first-i invariant-loop-i decreases-loop-i
+bounds-first-i c = omega arith
 
-add-i : tie.Need-overflow-add-i invariant-loop decreases-loop
-add-i c = omega arith
+overflow_add-i : tie.Need-overflow_add-i invariant-loop-i decreases-loop-i
+overflow_add-i c = omega arith
 
-loop-less : tie.Need-loop-smaller invariant-loop decreases-loop
-loop-less c = omega arith
+loop-i-smaller : tie.Need-loop-i-smaller invariant-loop-i decreases-loop-i
+loop-i-smaller c = omega arith
 
-loop-again : tie.Need-loop-preserved invariant-loop decreases-loop
-loop-again c =
-    let l = c.before.before.loop in
+loop-i-preserved : tie.Need-loop-i-preserved invariant-loop-i decreases-loop-i
+loop-i-preserved c =
+    let l = c.before.before.loop-i in
     let args = c.before.before.before.args in
-    let x = get_or args.t1 l.i no_output in
+    let x = get_or args.outputs l.i no_output in
     filled_step no_output _ args.n most_stages x l.invariant (omega arith) (omega arith) refl
 
-returns : tie.Need-returns invariant-loop decreases-loop
-returns c = filled_end no_output _ c.before.before.args.n most_stages c.before.loop.invariant (omega arith)
+returns : tie.Need-returns invariant-loop-i decreases-loop-i
+returns c = filled_end no_output _ c.before.before.args.n most_stages c.before.loop-i.invariant (omega arith)
 
-pub first-outputs-spec : {M : Type 1} → statement M
-first-outputs-spec =
+pub first_outputs_spec : {M : Type 1} → statement M
+first_outputs_spec =
     tie.close
     (tie.spec
-    invariant-loop
-    decreases-loop
-    loop-holds
-    mul-output
-    array-copy-out-output
-    mul-first
-    array-set-from-first
-    add-i
-    loop-less
-    loop-again
+    invariant-loop-i
+    decreases-loop-i
+    loop-i-init
+    offset_bounds-outputs-i
+    bounds-outputs-i
+    offset_bounds-first-i
+    bounds-first-i
+    overflow_add-i
+    loop-i-smaller
+    loop-i-preserved
     returns)

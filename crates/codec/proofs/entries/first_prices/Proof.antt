@@ -10,55 +10,55 @@ use Rattle.cases.proofs.FilledLaws.{Filled, filled_start, filled_step, filled_en
 use Rattle.codec.proofs.entries.first_prices.Statement.{statement}
 use Rattle.codec.proofs.entries.first_prices.Tie as tie
 
-abbrev invariant-loop : tie.invariant-loop
-invariant-loop n prices first₀ i₀ first i = Filled no_mills (λ i. get_or prices i no_mills) n most_hours first i
+abbrev invariant-loop-i : tie.invariant-loop-i
+invariant-loop-i n prices first₀ i₀ first i = Filled no_mills (λ i. get_or prices i no_mills) n most_hours first i
 
-abbrev decreases-loop : tie.decreases-loop
-decreases-loop n prices first₀ i₀ first i = n - i
+abbrev decreases-loop-i : tie.decreases-loop-i
+decreases-loop-i n prices first₀ i₀ first i = n - i
 
-loop-holds : tie.Need-loop-init invariant-loop decreases-loop
-loop-holds c = filled_start no_mills _ _ most_hours
+loop-i-init : tie.Need-loop-i-init invariant-loop-i decreases-loop-i
+loop-i-init c = filled_start no_mills _ _ most_hours
 
-mul-price : tie.Need-overflow-mul-price invariant-loop decreases-loop
-mul-price c = omega arith
+offset_bounds-prices-i : tie.Need-offset_bounds-prices-i invariant-loop-i decreases-loop-i
+offset_bounds-prices-i c = omega arith
 
-array-copy-out-price : tie.Need-array-copy-out-price invariant-loop decreases-loop
-array-copy-out-price c = omega arith
+bounds-prices-i : tie.Need-bounds-prices-i invariant-loop-i decreases-loop-i
+bounds-prices-i c = omega arith
 
-mul-first : tie.Need-overflow-mul-first invariant-loop decreases-loop
-mul-first c = omega arith
+offset_bounds-first-i : tie.Need-offset_bounds-first-i invariant-loop-i decreases-loop-i
+offset_bounds-first-i c = omega arith
 
-array-set-from-first : tie.Need-array-set-from-first invariant-loop decreases-loop
-array-set-from-first c = omega arith
+bounds-first-i : tie.Need-bounds-first-i invariant-loop-i decreases-loop-i
+bounds-first-i c = omega arith
 
-add-i : tie.Need-overflow-add-i invariant-loop decreases-loop
-add-i c = omega arith
+overflow_add-i : tie.Need-overflow_add-i invariant-loop-i decreases-loop-i
+overflow_add-i c = omega arith
 
-loop-less : tie.Need-loop-smaller invariant-loop decreases-loop
-loop-less c = omega arith
+loop-i-smaller : tie.Need-loop-i-smaller invariant-loop-i decreases-loop-i
+loop-i-smaller c = omega arith
 
-loop-again : tie.Need-loop-preserved invariant-loop decreases-loop
-loop-again c =
-    let l = c.before.before.loop in
+loop-i-preserved : tie.Need-loop-i-preserved invariant-loop-i decreases-loop-i
+loop-i-preserved c =
+    let l = c.before.before.loop-i in
     let args = c.before.before.before.args in
-    let x = get_or args.t1 l.i no_mills in
+    let x = get_or args.prices l.i no_mills in
     filled_step no_mills _ args.n most_hours x l.invariant (omega arith) (omega arith) refl
 
-returns : tie.Need-returns invariant-loop decreases-loop
-returns c = filled_end no_mills _ c.before.before.args.n most_hours c.before.loop.invariant (omega arith)
+returns : tie.Need-returns invariant-loop-i decreases-loop-i
+returns c = filled_end no_mills _ c.before.before.args.n most_hours c.before.loop-i.invariant (omega arith)
 
-pub first-prices-spec : {M : Type 1} → statement M
-first-prices-spec =
+pub first_prices_spec : {M : Type 1} → statement M
+first_prices_spec =
     tie.close
     (tie.spec
-    invariant-loop
-    decreases-loop
-    loop-holds
-    mul-price
-    array-copy-out-price
-    mul-first
-    array-set-from-first
-    add-i
-    loop-less
-    loop-again
+    invariant-loop-i
+    decreases-loop-i
+    loop-i-init
+    offset_bounds-prices-i
+    bounds-prices-i
+    offset_bounds-first-i
+    bounds-first-i
+    overflow_add-i
+    loop-i-smaller
+    loop-i-preserved
     returns)

@@ -8,21 +8,21 @@ use Rattle.codec.proofs.entries.zeroed.Tie as tie
 limits : (s : tie.Start) → Limits s.args.case
 limits s = limits_of_refusal_of s.args.case s.requires
 
-first-outputs-requires : tie.Need-first-outputs-requires
-first-outputs-requires c κs = (limits c.before.before.before.before).rises_le
+first_outputs-first_rise-requires : tie.Need-first_outputs-first_rise-requires
+first_outputs-first_rise-requires c κs = (limits c.before.before.before.before).rises_le
 
-first-outputs-requires-2 : tie.Need-first-outputs-requires-2
-first-outputs-requires-2 c κs =
+first_outputs-first_fall-requires : tie.Need-first_outputs-first_fall-requires
+first_outputs-first_fall-requires c κs =
     let s = c.before.before.before.before.before in
     (limits s).falls_le
 
-first-prices-requires : tie.Need-first-prices-requires
-first-prices-requires c κs =
+first_prices-first_price-requires : tie.Need-first_prices-first_price-requires
+first_prices-first_price-requires c κs =
     let s = c.before.before.before.before.before.before in
     (limits s).hours_le
 
-first-orders-requires : tie.Need-first-orders-requires
-first-orders-requires c κs =
+first_orders-first_order-requires : tie.Need-first_orders-first_order-requires
+first_orders-first_order-requires c κs =
     let s = c.before.before.before.before.before.before.before in
     (limits s).hours_le
 
@@ -45,21 +45,21 @@ returns c =
       elapsed = case.elapsed;
       upstage = case.upstage;
       downstage = case.downstage;
-      rise = c.before.before.before.first-outputs.ensures i;
-      fall = c.before.before.first-outputs2.ensures i;
-      prices = c.before.first-prices.ensures i;
-      orders = c.first-orders.ensures i;
+      rise = c.before.before.before.first_outputs-first_rise.ensures i;
+      fall = c.before.before.first_outputs-first_fall.ensures i;
+      prices = c.before.first_prices-first_price.ensures i;
+      orders = c.first_orders-first_order.ensures i;
       rises = case.rises;
       falls = case.falls;
       hours = case.hours;
     }
 
-pub zeroed-spec : {M : Type 1} → statement M
-zeroed-spec =
+pub zeroed_spec : {M : Type 1} → statement M
+zeroed_spec =
     tie.close
     (tie.spec
-    first-outputs-requires
-    first-outputs-requires-2
-    first-prices-requires
-    first-orders-requires
+    first_outputs-first_rise-requires
+    first_outputs-first_fall-requires
+    first_prices-first_price-requires
+    first_orders-first_order-requires
     returns)

@@ -16,42 +16,42 @@ use Rattle.hours.proofs.counts.closing.Tie as tie
 falls_le : (s : tie.Start) → s.args.case.falls ≤ most_stages
 falls_le s = (limits_of_refusal_of s.args.case s.requires).falls_le
 
-returns : tie.Need-returns
-returns c =
+returns-then-i-lt2 : tie.Need-returns-then-i-lt2
+returns-then-i-lt2 c =
     let a = c.before.args in
     sym (closing_early a.i a.case.falls a.end.0 (stage a.case.fall a.i) (search rules))
 
-returns-2 : tie.Need-returns-2
-returns-2 c =
+returns-then-case-i : tie.Need-returns-then-case-i
+returns-then-case-i c =
     let a = c.before.before.before.args in
     sym (closing_late a.i a.case.falls a.end.0 (stage a.case.fall a.i) (search rules))
 
-sub-output : tie.Need-overflow-sub-output
-sub-output c = search rules
+overflow_sub-output : tie.Need-overflow_sub-output
+overflow_sub-output c = search rules
 
-mul-output : tie.Need-overflow-mul-output
-mul-output c = let s = c.before.before.before.before in omega (arith, falls_le s)
+offset_bounds-fall-i : tie.Need-offset_bounds-fall-i
+offset_bounds-fall-i c = let s = c.before.before.before.before in omega (arith, falls_le s)
 
-array-copy-out-output : tie.Need-array-copy-out-output
-array-copy-out-output c = let s = c.before.before.before.before in omega (arith, falls_le s)
+bounds-fall-i : tie.Need-bounds-fall-i
+bounds-fall-i c = let s = c.before.before.before.before in omega (arith, falls_le s)
 
-returns-3 : tie.Need-returns-3
-returns-3 c =
+returns-then-end-output : tie.Need-returns-then-end-output
+returns-then-end-output c =
     let a = c.before.before.before.before.before.before.before.before.args in
     let here = entry_is a.case.fall a.i (search rules) in
     sym
     (closing_at a.i a.case.falls a.end.0 (stage a.case.fall a.i) (search rules) (search rules)
     ∙ ap bit (eq-eqb a.end.0 (stage a.case.fall a.i) (omega arith)))
 
-returns-4 : tie.Need-returns-4
-returns-4 c =
+returns-else-end-output : tie.Need-returns-else-end-output
+returns-else-end-output c =
     let a = c.before.before.before.before.before.before.before.before.args in
     let here = entry_is a.case.fall a.i (search rules) in
     sym
     (closing_at a.i a.case.falls a.end.0 (stage a.case.fall a.i) (search rules) (search rules)
     ∙ ap bit (ne_eqb a.end.0 (stage a.case.fall a.i) (λ e. omega arith)))
 
-pub closing-spec : {M : Type 1} → statement M
-closing-spec =
+pub closing_spec : {M : Type 1} → statement M
+closing_spec =
     tie.close
-    (tie.spec returns returns-2 sub-output mul-output array-copy-out-output returns-3 returns-4)
+    (tie.spec returns-then-i-lt2 returns-then-case-i overflow_sub-output offset_bounds-fall-i bounds-fall-i returns-then-end-output returns-else-end-output)

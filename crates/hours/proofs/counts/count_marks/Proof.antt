@@ -15,42 +15,42 @@ use Rattle.hours.proofs.counts.count_marks.Tie as tie
 limits : (s : tie.Start) → Limits s.args.case
 limits s = limits_of_refusal_of s.args.case s.requires.0
 
-count-starts-requires : tie.Need-count-starts-requires
-count-starts-requires c κs = search rules
+count_starts-requires : tie.Need-count_starts-requires
+count_starts-requires c κs = search rules
 
-cast-t9 : tie.Need-overflow-cast-t9
-cast-t9 c = omega (arith, (limits c.before.before.before.before).hours_le)
+overflow_cast-next : tie.Need-overflow_cast-next
+overflow_cast-next c = omega (arith, (limits c.before.before.before.before).hours_le)
 
-add-t10 : tie.Need-overflow-add-t10
-add-t10 c = omega (arith, (limits c.before.before.before.before).hours_le)
+overflow_add-next : tie.Need-overflow_add-next
+overflow_add-next c = omega (arith, (limits c.before.before.before.before).hours_le)
 
-add-t11 : tie.Need-overflow-add-t11
-add-t11 c = omega (arith, (limits c.before.before.before.before).hours_le)
+overflow_add-next-2 : tie.Need-overflow_add-next-2
+overflow_add-next-2 c = omega (arith, (limits c.before.before.before.before).hours_le)
 
-cast-t9-2 : tie.Need-overflow-cast-t9-2
-cast-t9-2 c =
-    let s = c.before.before.before.before.before.before in
+overflow_cast-case : tie.Need-overflow_cast-case
+overflow_cast-case c =
+    let s = c.before.before.before.before.before in
     omega (arith, (limits s).rises_le)
 
 less-requires : tie.Need-less-requires
 less-requires c κs = search rules
 
-between-requires : tie.Need-between-requires
-between-requires c κs =
-    let s = c.before.before.before.before.before.before.before in (
+between-started-requires : tie.Need-between-started-requires
+between-started-requires c κs =
+    let s = c.before.before.before.before.before.before in (
       omega (arith, c.less.ensures, (limits s).hours_le),
-      (start_of s.args.case s.args.list.now, c.before.before.before.before.count-starts.ensures),
+      (start_of s.args.case s.args.list.now, c.before.before.before.count_starts.ensures),
     )
 
-count-stops-requires : tie.Need-count-stops-requires
-count-stops-requires c κs =
+count_stops-requires : tie.Need-count_stops-requires
+count_stops-requires c κs =
     let b = c.before in
-    let counted-starts = b.before.before.before.before.before in
-    let s = counted-starts.before.before.before in
+    let counted_starts = b.before.before.before.before in
+    let s = counted_starts.before.before.before in
     let case = s.args.case in
     let f = start_of case s.args.list.now in
     let next = case.hours + most_stages + 1 in
-    let started = b.between.ensures f counted-starts.count-starts.ensures
+    let started = b.between-started.ensures f counted_starts.count_starts.ensures
     ∙ ap (λ n. counted f next - counted f n) b.before.less.ensures
     ∙ starting_counted case s.args.list.now (limits s) case.hours in
     (s.requires.0, (started, s.requires.1.1))
@@ -58,16 +58,16 @@ count-stops-requires c κs =
 returns : tie.Need-returns
 returns c = search rules
 
-pub count-marks-spec : {M : Type 1} → statement M
-count-marks-spec =
+pub count_marks_spec : {M : Type 1} → statement M
+count_marks_spec =
     tie.close
     (tie.spec
-    count-starts-requires
-    cast-t9
-    add-t10
-    add-t11
-    cast-t9-2
+    count_starts-requires
+    overflow_cast-next
+    overflow_add-next
+    overflow_add-next-2
+    overflow_cast-case
     less-requires
-    between-requires
-    count-stops-requires
+    between-started-requires
+    count_stops-requires
     returns)

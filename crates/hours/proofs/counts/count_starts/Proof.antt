@@ -12,58 +12,58 @@ use Rattle.hours.proofs.MarkingLaws.{Marking, marking_start, marking_step, marki
 use Rattle.hours.proofs.counts.count_starts.Statement.{statement}
 use Rattle.hours.proofs.counts.count_starts.Tie as tie
 
-abbrev invariant-loop : tie.invariant-loop
-invariant-loop case list starts₀ marks₀ n₀ starts marks n = Marking (start_of case list) n marks starts
+abbrev invariant-loop-n : tie.invariant-loop-n
+invariant-loop-n case list starts₀ marks₀ n₀ starts marks n = Marking (start_of case list) n marks starts
 
-abbrev decreases-loop : tie.decreases-loop
-decreases-loop case list starts₀ marks₀ n₀ starts marks n = last_count - n
+abbrev decreases-loop-n : tie.decreases-loop-n
+decreases-loop-n case list starts₀ marks₀ n₀ starts marks n = last_count - n
 
-loop-holds : tie.Need-loop-init invariant-loop decreases-loop
-loop-holds c =
+loop-n-init : tie.Need-loop-n-init invariant-loop-n decreases-loop-n
+loop-n-init c =
     let s = c.before in
     let case = s.args.case in
     let l = s.args.list.now in
     marking_start s.requires.1 (start_zero case l (limits_of_refusal_of case s.requires.0))
     (λ k. y_back_le case l k (suc most_stages))
 
-start-at-requires : tie.Need-start-at-requires invariant-loop decreases-loop
-start-at-requires c κs = search rules
+start_at-marks-requires : tie.Need-start_at-marks-requires invariant-loop-n decreases-loop-n
+start_at-marks-requires c κs = search rules
 
-add-marks : tie.Need-overflow-add-marks invariant-loop decreases-loop
-add-marks c =
+overflow_add-marks : tie.Need-overflow_add-marks invariant-loop-n decreases-loop-n
+overflow_add-marks c =
     let s = c.before.before in
     let a = s.before.before.args in
-    let mark = c.start_at.ensures in
-    let few = counting_few s.loop.invariant.counting in
-    omega (arith, s.loop.invariant.most, y_back_le a.case a.list.now s.loop.n (suc most_stages))
+    let mark = c.start_at-marks.ensures in
+    let few = counting_few s.loop-n.invariant.counting in
+    omega (arith, s.loop-n.invariant.most, y_back_le a.case a.list.now s.loop-n.n (suc most_stages))
 
-add-n : tie.Need-overflow-add-n invariant-loop decreases-loop
-add-n c = search rules
+overflow_add-n : tie.Need-overflow_add-n invariant-loop-n decreases-loop-n
+overflow_add-n c = search rules
 
-element-write-starts : tie.Need-element-write-starts invariant-loop decreases-loop
-element-write-starts c = search rules
+bounds-starts-n : tie.Need-bounds-starts-n invariant-loop-n decreases-loop-n
+bounds-starts-n c = search rules
 
-loop-less : tie.Need-loop-smaller invariant-loop decreases-loop
-loop-less c = search rules
+loop-n-smaller : tie.Need-loop-n-smaller invariant-loop-n decreases-loop-n
+loop-n-smaller c = search rules
 
-loop-again : tie.Need-loop-preserved invariant-loop decreases-loop
-loop-again c =
-    marking_step c.start_at.result c.before.before.loop.invariant (search rules) c.start_at.ensures
+loop-n-preserved : tie.Need-loop-n-preserved invariant-loop-n decreases-loop-n
+loop-n-preserved c =
+    marking_step c.start_at-marks.result c.before.before.loop-n.invariant (search rules) c.start_at-marks.ensures
 
-returns : tie.Need-returns invariant-loop decreases-loop
-returns c = marking_end c.before.loop.invariant (search rules)
+returns : tie.Need-returns invariant-loop-n decreases-loop-n
+returns c = marking_end c.before.loop-n.invariant (search rules)
 
-pub count-starts-spec : {M : Type 1} → statement M
-count-starts-spec =
+pub count_starts_spec : {M : Type 1} → statement M
+count_starts_spec =
     tie.close
     (tie.spec
-    invariant-loop
-    decreases-loop
-    loop-holds
-    start-at-requires
-    add-marks
-    add-n
-    element-write-starts
-    loop-less
-    loop-again
+    invariant-loop-n
+    decreases-loop-n
+    loop-n-init
+    start_at-marks-requires
+    overflow_add-marks
+    overflow_add-n
+    bounds-starts-n
+    loop-n-smaller
+    loop-n-preserved
     returns)

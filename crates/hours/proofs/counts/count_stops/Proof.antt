@@ -11,63 +11,63 @@ use Rattle.hours.proofs.MarkingLaws.{Marking, marking_start, marking_step, marki
 use Rattle.hours.proofs.counts.count_stops.Statement.{statement}
 use Rattle.hours.proofs.counts.count_stops.Tie as tie
 
-abbrev invariant-loop : tie.invariant-loop
-invariant-loop case list started stops₀ marks₀ k₀ stops marks k = Marking (z case list) k marks stops
+abbrev invariant-loop-k : tie.invariant-loop-k
+invariant-loop-k case list started stops₀ marks₀ k₀ stops marks k = Marking (z case list) k marks stops
 
-abbrev decreases-loop : tie.decreases-loop
-decreases-loop case list started stops₀ marks₀ k₀ stops marks k = last_count - k
+abbrev decreases-loop-k : tie.decreases-loop-k
+decreases-loop-k case list started stops₀ marks₀ k₀ stops marks k = last_count - k
 
-loop-holds : tie.Need-loop-init invariant-loop decreases-loop
-loop-holds c =
+loop-k-init : tie.Need-loop-k-init invariant-loop-k decreases-loop-k
+loop-k-init c =
     let s = c.before in
     let case = s.args.case in
     let l = s.args.list.now in
     marking_start s.requires.1.1 (z_zero case l) (z_le case l)
 
-cast-t9 : tie.Need-overflow-cast-t9 invariant-loop decreases-loop
-cast-t9 c = omega (arith, c.before.loop.invariant.most)
+overflow_cast-k : tie.Need-overflow_cast-k invariant-loop-k decreases-loop-k
+overflow_cast-k c = omega (arith, c.before.loop-k.invariant.most)
 
-stop-at-requires : tie.Need-stop-at-requires invariant-loop decreases-loop
-stop-at-requires c κs =
+stop_at-marks-requires : tie.Need-stop_at-marks-requires invariant-loop-k decreases-loop-k
+stop_at-marks-requires c κs =
     let s = c.before.before.before in
-    (s.requires.0, (c.before.loop.invariant.some, s.requires.1.0))
+    (s.requires.0, (c.before.loop-k.invariant.some, s.requires.1.0))
 
-add-marks : tie.Need-overflow-add-marks invariant-loop decreases-loop
-add-marks c =
+overflow_add-marks : tie.Need-overflow_add-marks invariant-loop-k decreases-loop-k
+overflow_add-marks c =
     let s = c.before.before in
     let a = s.before.before.args in
-    let mark = c.stop_at.ensures in
-    let few = counting_few s.loop.invariant.counting in
-    omega (arith, s.loop.invariant.most, z_le a.case a.list.now s.loop.k)
+    let mark = c.stop_at-marks.ensures in
+    let few = counting_few s.loop-k.invariant.counting in
+    omega (arith, s.loop-k.invariant.most, z_le a.case a.list.now s.loop-k.k)
 
-add-k : tie.Need-overflow-add-k invariant-loop decreases-loop
-add-k c = search rules
+overflow_add-k : tie.Need-overflow_add-k invariant-loop-k decreases-loop-k
+overflow_add-k c = search rules
 
-element-write-stops : tie.Need-element-write-stops invariant-loop decreases-loop
-element-write-stops c = search rules
+bounds-stops-k : tie.Need-bounds-stops-k invariant-loop-k decreases-loop-k
+bounds-stops-k c = search rules
 
-loop-less : tie.Need-loop-smaller invariant-loop decreases-loop
-loop-less c = search rules
+loop-k-smaller : tie.Need-loop-k-smaller invariant-loop-k decreases-loop-k
+loop-k-smaller c = search rules
 
-loop-again : tie.Need-loop-preserved invariant-loop decreases-loop
-loop-again c =
-    marking_step c.stop_at.result c.before.before.loop.invariant (search rules) c.stop_at.ensures
+loop-k-preserved : tie.Need-loop-k-preserved invariant-loop-k decreases-loop-k
+loop-k-preserved c =
+    marking_step c.stop_at-marks.result c.before.before.loop-k.invariant (search rules) c.stop_at-marks.ensures
 
-returns : tie.Need-returns invariant-loop decreases-loop
-returns c = marking_end c.before.loop.invariant (search rules)
+returns : tie.Need-returns invariant-loop-k decreases-loop-k
+returns c = marking_end c.before.loop-k.invariant (search rules)
 
-pub count-stops-spec : {M : Type 1} → statement M
-count-stops-spec =
+pub count_stops_spec : {M : Type 1} → statement M
+count_stops_spec =
     tie.close
     (tie.spec
-    invariant-loop
-    decreases-loop
-    loop-holds
-    cast-t9
-    stop-at-requires
-    add-marks
-    add-k
-    element-write-stops
-    loop-less
-    loop-again
+    invariant-loop-k
+    decreases-loop-k
+    loop-k-init
+    overflow_cast-k
+    stop_at-marks-requires
+    overflow_add-marks
+    overflow_add-k
+    bounds-stops-k
+    loop-k-smaller
+    loop-k-preserved
     returns)

@@ -10,78 +10,78 @@ use Rattle.hours.proofs.StartsLaws.{start_opening, start_below, start_later, sta
 use Rattle.hours.proofs.counts.start_at.Statement.{statement}
 use Rattle.hours.proofs.counts.start_at.Tie as tie
 
-cast-if2 : tie.Need-overflow-cast-if2
-cast-if2 c = search rules
+overflow_cast-case : tie.Need-overflow_cast-case
+overflow_cast-case c = search rules
 
-add-if2 : tie.Need-overflow-add-if2
-add-if2 c = search rules
+overflow_add-n : tie.Need-overflow_add-n
+overflow_add-n c = search rules
 
-add-if2-2 : tie.Need-overflow-add-if2-2
-add-if2-2 c = search rules
+overflow_add-t-9 : tie.Need-overflow_add-t-9
+overflow_add-t-9 c = search rules
 
-returns : tie.Need-returns
-returns c =
+returns-then-n-case : tie.Need-returns-then-n-case
+returns-then-n-case c =
     let a = c.before.before.before.before.args in
     sym (start_opening a.case a.list.now a.n (search rules) (search rules))
 
-returns-2 : tie.Need-returns-2
-returns-2 c =
+returns-then-n-le-STAGES : tie.Need-returns-then-n-le-STAGES
+returns-then-n-le-STAGES c =
     let a = c.before.before.before.before.args in
     sym (start_below a.case a.list.now a.n (search rules) (search rules))
 
-sub-if3 : tie.Need-overflow-sub-if3
-sub-if3 c = search rules
+overflow_sub-n : tie.Need-overflow_sub-n
+overflow_sub-n c = search rules
 
-returns-3 : tie.Need-returns-3
-returns-3 c =
+returns-then-case-n : tie.Need-returns-then-case-n
+returns-then-case-n c =
     let a = c.before.before.before.before.args in
     sym (start_past a.case a.list.now a.n (search rules))
 
-sub-t11 : tie.Need-overflow-sub-t11
-sub-t11 c = search rules
+overflow_sub-k : tie.Need-overflow_sub-k
+overflow_sub-k c = search rules
 
-cast-t12 : tie.Need-overflow-cast-t12
-cast-t12 c = search rules
+overflow_cast-k : tie.Need-overflow_cast-k
+overflow_cast-k c = search rules
 
 less-requires : tie.Need-less-requires
 less-requires c κs = search rules
 
-output-at-requires : tie.Need-output-at-requires
-output-at-requires c κs = search rules
+output_at-was-requires : tie.Need-output_at-was-requires
+output_at-was-requires c κs = search rules
 
-output-at-requires-2 : tie.Need-output-at-requires-2
-output-at-requires-2 c κs = search rules
+output_at-requires : tie.Need-output_at-requires
+output_at-requires c κs = search rules
 
-marks-of-requires : tie.Need-marks-of-requires
-marks-of-requires c κs = search rules
+marks_of-requires : tie.Need-marks_of-requires
+marks_of-requires c κs = search rules
 
-returns-4 : tie.Need-returns-4
-returns-4 c =
+returns : tie.Need-returns
+returns c =
     let is = c.before in
     let was = is.before in
     let less = was.before in
     let a = less.before.before.before.before.before.args in
     let k = a.n - most_stages in
-    let earlier = was.output-at.ensures ∙ ap (p a.case a.list.now) less.less.ensures in
-    let later = is.output-at2.ensures in
+    let earlier = was.output_at-was.ensures ∙ ap (p a.case a.list.now) less.less.ensures in
+    let later = is.output_at.ensures in
     let at = marks_at_is a.case a.list.now k (search rules) earlier later c.marks_of.ensures in
     ap (λ m. m.start) at ∙ sym (start_later a.case a.list.now a.n (search rules))
 
-pub start-at-spec : {M : Type 1} → statement M
-start-at-spec =
+pub start_at_spec : {M : Type 1} → statement M
+start_at_spec =
     tie.close
     (tie.spec
-    cast-if2
-    add-if2
-    add-if2-2
-    returns
-    returns-2
-    sub-if3
-    returns-3
-    sub-t11
-    cast-t12
+    overflow_cast-case
+    overflow_add-n
+    overflow_add-t-9
+    returns-then-n-case
+    returns-then-n-le-STAGES
+    overflow_sub-n
+    returns-then-case-n
+    overflow_sub-k
+    overflow_cast-k
     less-requires
-    output-at-requires
-    output-at-requires-2
-    marks-of-requires
-    returns-4)
+    output_at-was-requires
+    output_at-requires
+    marks_of-requires
+    returns)

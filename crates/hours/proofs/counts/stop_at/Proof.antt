@@ -17,85 +17,85 @@ use Rattle.hours.proofs.counts.stop_at.Tie as tie
 limits : (s : tie.Start) → Limits s.args.case
 limits s = limits_of_refusal_of s.args.case s.requires.0
 
-cast-at : tie.Need-overflow-cast-at
-cast-at c = search rules
+overflow_cast-at : tie.Need-overflow_cast-at
+overflow_cast-at c = search rules
 
 less-requires : tie.Need-less-requires
 less-requires c κs = search rules
 
-output-at-requires : tie.Need-output-at-requires
-output-at-requires c κs = search rules
+output_at-was-requires : tie.Need-output_at-was-requires
+output_at-was-requires c κs = search rules
 
-output-at-requires-2 : tie.Need-output-at-requires-2
-output-at-requires-2 c κs = search rules
+output_at-requires : tie.Need-output_at-requires
+output_at-requires c κs = search rules
 
-marks-of-requires : tie.Need-marks-of-requires
-marks-of-requires c κs = search rules
+marks_of-requires : tie.Need-marks_of-requires
+marks_of-requires c κs = search rules
 
-returns : tie.Need-returns
-returns c =
+returns-then-at-hours : tie.Need-returns-then-at-hours
+returns-then-at-hours c =
     let is = c.before in
     let was = is.before in
     let less = was.before in
     let a = less.before.before.before.before.args in
-    let earlier = was.output-at.ensures ∙ ap (p a.case a.list.now) less.less.ensures in
-    let at = marks_at_is a.case a.list.now a.k.0 (search rules) earlier is.output-at2.ensures
+    let earlier = was.output_at-was.ensures ∙ ap (p a.case a.list.now) less.less.ensures in
+    let at = marks_at_is a.case a.list.now a.k.0 (search rules) earlier is.output_at.ensures
     c.marks_of.ensures in
     ap (λ m. m.stop) at
 
-add-end : tie.Need-overflow-add-end
-add-end c = let h = limits c.before.before.before.before in omega (arith, h.hours_le, h.falls_le)
+overflow_add-end : tie.Need-overflow_add-end
+overflow_add-end c = let h = limits c.before.before.before.before in omega (arith, h.hours_le, h.falls_le)
 
-add-end-2 : tie.Need-overflow-add-end-2
-add-end-2 c = let h = limits c.before.before.before.before in omega (arith, h.hours_le, h.falls_le)
+overflow_add-end-2 : tie.Need-overflow_add-end-2
+overflow_add-end-2 c = let h = limits c.before.before.before.before in omega (arith, h.hours_le, h.falls_le)
 
-returns-2 : tie.Need-returns-2
-returns-2 c =
+returns-then-end-at : tie.Need-returns-then-end-at
+returns-then-end-at c =
     let a = c.before.before.before.before.before.args in
     sym (z_far a.case a.list.now a.k.0 (search rules) (search rules))
 
-returns-3 : tie.Need-returns-3
-returns-3 c =
+returns-then-started-ne0 : tie.Need-returns-then-started-ne0
+returns-then-started-ne0 c =
     let s = c.before.before.before.before.before.before in
     let a = s.args in
     sym (z_started a.case a.list.now a.k.0 (search rules) (λ e. omega (arith, s.requires)))
 
-cast-t16 : tie.Need-overflow-cast-t16
-cast-t16 c = search rules
+overflow_cast-hours : tie.Need-overflow_cast-hours
+overflow_cast-hours c = search rules
 
-output-at-requires-3 : tie.Need-output-at-requires-3
-output-at-requires-3 c κs = search rules
+output_at-requires-2 : tie.Need-output_at-requires-2
+output_at-requires-2 c κs = search rules
 
 closing-requires : tie.Need-closing-requires
 closing-requires c κs =
     let s = c.before.before.before.before.before.before.before in
     s.requires.0
 
-returns-4 : tie.Need-returns-4
-returns-4 c =
+returns : tie.Need-returns
+returns c =
     let s = c.before.before.before.before.before.before.before.before in
     let a = s.args in
     let case = a.case in
     let i = case.hours + case.falls + 1 - a.k.0 in
     c.closing.ensures
-    ∙ ap (λ x. closed i case.falls x (stage case.fall i)) c.before.output-at3.ensures
+    ∙ ap (λ x. closed i case.falls x (stage case.fall i)) c.before.output_at-2.ensures
     ∙ sym (z_closing case a.list.now a.k.0 (search rules) (omega (arith, s.requires)))
 
-pub stop-at-spec : {M : Type 1} → statement M
-stop-at-spec =
+pub stop_at_spec : {M : Type 1} → statement M
+stop_at_spec =
     tie.close
     (tie.spec
-    cast-at
+    overflow_cast-at
     less-requires
-    output-at-requires
-    output-at-requires-2
-    marks-of-requires
-    returns
-    add-end
-    add-end-2
-    returns-2
-    returns-3
-    cast-t16
-    output-at-requires-3
+    output_at-was-requires
+    output_at-requires
+    marks_of-requires
+    returns-then-at-hours
+    overflow_add-end
+    overflow_add-end-2
+    returns-then-end-at
+    returns-then-started-ne0
+    overflow_cast-hours
+    output_at-requires-2
     closing-requires
-    returns-4)
+    returns)

@@ -7,32 +7,32 @@ use Rattle.day.proofs.MarksLaws.{p_zero, p_later, p_past}
 use Rattle.hours.proofs.marks.output_at.Statement.{statement}
 use Rattle.hours.proofs.marks.output_at.Tie as tie
 
-cast-at : tie.Need-overflow-cast-at
-cast-at c = search rules
+overflow_cast-at : tie.Need-overflow_cast-at
+overflow_cast-at c = search rules
 
-returns : tie.Need-returns
-returns c = let a = c.before.before.before.args in cc (p_zero a.case a.list.now)
+returns-then-at-eq0 : tie.Need-returns-then-at-eq0
+returns-then-at-eq0 c = let a = c.before.before.before.args in cc (p_zero a.case a.list.now)
 
-sub-i : tie.Need-overflow-sub-i
-sub-i c = search rules
+overflow_sub-i : tie.Need-overflow_sub-i
+overflow_sub-i c = search rules
 
-mul-t8 : tie.Need-overflow-mul-t8
-mul-t8 c = search rules
+offset_bounds-list-i : tie.Need-offset_bounds-list-i
+offset_bounds-list-i c = search rules
 
-shared-slice-read-t10 : tie.Need-shared-slice-read-t10
-shared-slice-read-t10 c = search rules
+bounds-list-i : tie.Need-bounds-list-i
+bounds-list-i c = search rules
 
-returns-2 : tie.Need-returns-2
-returns-2 c =
+returns-then-i-list : tie.Need-returns-then-i-list
+returns-then-i-list c =
     let a = c.before.before.before.before.args in
     sym (p_later a.case a.list.now a.k.0 (omega arith))
 
-returns-3 : tie.Need-returns-3
-returns-3 c =
+returns : tie.Need-returns
+returns c =
     let a = c.before.before.before.args in
     sym (p_past a.case a.list.now a.k.0 (omega arith))
 
-pub output-at-spec : {M : Type 1} → statement M
-output-at-spec =
+pub output_at_spec : {M : Type 1} → statement M
+output_at_spec =
     tie.close
-    (tie.spec cast-at returns sub-i mul-t8 shared-slice-read-t10 returns-2 returns-3)
+    (tie.spec overflow_cast-at returns-then-at-eq0 overflow_sub-i offset_bounds-list-i bounds-list-i returns-then-i-list returns)

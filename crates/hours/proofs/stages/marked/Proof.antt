@@ -6,16 +6,16 @@ use Prim.Native.Nat.{◌*◌}
 use Rattle.hours.proofs.stages.marked.Statement.{statement}
 use Rattle.hours.proofs.stages.marked.Tie as tie
 
-returns : tie.Need-returns
-returns c =
+returns-then-mark-eq0 : tie.Need-returns-then-mark-eq0
+returns-then-mark-eq0 c =
     let a = c.before.args in
-    (sym (ap (λ m. a.output.0 * m) c.if1.true ∙ mul-zero a.output.0), omega arith)
+    (sym (ap (λ m. a.output.0 * m) c.if-mark-eq0.true ∙ mul-zero a.output.0), omega arith)
 
-returns-2 : tie.Need-returns-2
-returns-2 c =
+returns-else-mark-eq0 : tie.Need-returns-else-mark-eq0
+returns-else-mark-eq0 c =
     let a = c.before.args in
-    let one : a.mark ≡ 1 = omega (arith, c.if1.false) in
+    let one : a.mark ≡ 1 = omega (arith, c.if-mark-eq0.false) in
     (sym (ap (λ m. a.output.0 * m) one ∙ mul-one a.output.0), omega arith)
 
-pub marked-spec : {M : Type 1} → statement M
-marked-spec = tie.close (tie.spec returns returns-2)
+pub marked_spec : {M : Type 1} → statement M
+marked_spec = tie.close (tie.spec returns-then-mark-eq0 returns-else-mark-eq0)

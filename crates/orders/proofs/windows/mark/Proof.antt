@@ -6,23 +6,23 @@ use Rattle.orders.proofs.MarkedLaws.{marked_of_part}
 use Rattle.orders.proofs.windows.mark.Statement.{statement}
 use Rattle.orders.proofs.windows.mark.Tie as tie
 
+less-begin-requires : tie.Need-less-begin-requires
+less-begin-requires c κs = search rules
+
+overflow_add-first : tie.Need-overflow_add-first
+overflow_add-first c = search rules
+
 less-requires : tie.Need-less-requires
 less-requires c κs = search rules
 
-add-t10 : tie.Need-overflow-add-t10
-add-t10 c = search rules
+least-end-requires : tie.Need-least-end-requires
+least-end-requires c κs = search rules
 
-less-requires-2 : tie.Need-less-requires-2
-less-requires-2 c κs = search rules
+overflow_cast-begin : tie.Need-overflow_cast-begin
+overflow_cast-begin c = search rules
 
-least-requires : tie.Need-least-requires
-least-requires c κs = search rules
-
-cast-put : tie.Need-overflow-cast-put
-cast-put c = search rules
-
-cast-put-2 : tie.Need-overflow-cast-put-2
-cast-put-2 c = search rules
+overflow_cast-end : tie.Need-overflow_cast-end
+overflow_cast-end c = search rules
 
 put-requires : tie.Need-put-requires
 put-requires c κs = search rules
@@ -37,11 +37,11 @@ pub mark_spec : {M : Type 1} → statement M
 mark_spec =
     tie.close
     (tie.spec
+    less-begin-requires
+    overflow_add-first
     less-requires
-    add-t10
-    less-requires-2
-    least-requires
-    cast-put
-    cast-put-2
+    least-end-requires
+    overflow_cast-begin
+    overflow_cast-end
     put-requires
     returns)

@@ -10,8 +10,8 @@ returns c =
     let l = c.before.before.before.before.before.args.part.now in
     omega (arith, number_at_split l 0 1 1, number_at_one l 0, number_at_one l 1)
 
-pub front-spec : {M : Type 1} → statement M
-front-spec =
+pub front_spec : {M : Type 1} → statement M
+front_spec =
     tie.close
     (tie.spec
     (λ c κs. search rules)

@@ -8,5 +8,5 @@ use Rattle.reader.proofs.numbers.mills.Tie as tie
 returns : tie.Need-returns
 returns c = c.signed.ensures ∙ ap signed c.before.long.ensures
 
-pub mills-spec : {M : Type 1} → statement M
-mills-spec = tie.close (tie.spec (λ c κs. search rules) (λ c κs. search rules) returns)
+pub mills_spec : {M : Type 1} → statement M
+mills_spec = tie.close (tie.spec (λ c κs. search rules) (λ c κs. search rules) returns)

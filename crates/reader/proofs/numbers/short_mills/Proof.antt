@@ -8,5 +8,5 @@ use Rattle.reader.proofs.numbers.short_mills.Tie as tie
 returns : tie.Need-returns
 returns c = c.signed.ensures ∙ ap signed c.before.word.ensures
 
-pub short-mills-spec : {M : Type 1} → statement M
-short-mills-spec = tie.close (tie.spec (λ c κs. search rules) (λ c. search rules) (λ c κs. search rules) returns)
+pub short_mills_spec : {M : Type 1} → statement M
+short_mills_spec = tie.close (tie.spec (λ c κs. search rules) (λ c. search rules) (λ c κs. search rules) returns)

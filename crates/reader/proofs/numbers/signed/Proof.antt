@@ -32,7 +32,7 @@ module _ (n : ℕ) (high : half_longs ≤ n) (fits : n < longs) where
   fit : SFits w32 (negsuc 0 -ℤ pos rest)
   fit = rw below (record { sfits = omega arith })
 
-module _ (c : tie.Else1) where
+module _ (c : tie.Else-bits-lt-HALF_LONGS) where
   abbrev bits : ℕ
   bits = c.before.args.bits
 
@@ -42,18 +42,18 @@ module _ (c : tie.Else1) where
   lower : to_z w32 (longs - 1 - bits) ≡ pos (longs - 1 - bits)
   lower = to_z_pos w32 (omega arith)
 
+returns-then-bits-lt-HALF_LONGS : tie.Need-returns-then-bits-lt-HALF_LONGS
+returns-then-bits-lt-HALF_LONGS c = to_z_pos w32 c.if-bits-lt-HALF_LONGS.true ∙ sym (signed_low c.before.args.bits c.if-bits-lt-HALF_LONGS.true)
+
+overflow_sub-result-2 : tie.Need-overflow_sub-result-2
+overflow_sub-result-2 c = rw (lower c) (fit (bits c) c.if-bits-lt-HALF_LONGS.false (small c))
+
 returns : tie.Need-returns
-returns c = to_z_pos w32 c.if1.true ∙ sym (signed_low c.before.args.bits c.if1.true)
-
-sub-t6 : tie.Need-overflow-sub-t6
-sub-t6 c = rw (lower c) (fit (bits c) c.if1.false (small c))
-
-returns-2 : tie.Need-returns-2
-returns-2 c =
+returns c =
     let n = bits c in
-    rw (lower c) (to_z-of_z (fit n c.if1.false (small c)) ∙ is n c.if1.false (small c))
+    rw (lower c) (to_z-of_z (fit n c.if-bits-lt-HALF_LONGS.false (small c)) ∙ is n c.if-bits-lt-HALF_LONGS.false (small c))
 
-pub signed-spec : {M : Type 1} → statement M
-signed-spec =
+pub signed_spec : {M : Type 1} → statement M
+signed_spec =
     tie.close
-    (tie.spec (λ c. search rules) returns (λ c. search rules) (λ c. search rules) sub-t6 returns-2)
+    (tie.spec (λ c. search rules) returns-then-bits-lt-HALF_LONGS (λ c. search rules) (λ c. search rules) overflow_sub-result-2 returns)

@@ -6,26 +6,26 @@ use Rattle.cases.proofs.NumbersLaws.{number_at_one, number_at_split}
 use Rattle.reader.proofs.numbers.word.Statement.{statement}
 use Rattle.reader.proofs.numbers.word.Tie as tie
 
-shared-slice-read-wide : tie.Need-shared-slice-read-wide
-shared-slice-read-wide c = search rules
+bounds-part-at : tie.Need-bounds-part-at
+bounds-part-at c = search rules
 
 wide-requires : tie.Need-wide-requires
 wide-requires c κs = search rules
 
-add_wide : tie.Need-overflow-add-wide
-add_wide c = search rules
+overflow_add-at : tie.Need-overflow_add-at
+overflow_add-at c = search rules
 
-shared-slice-read-wide-2 : tie.Need-shared-slice-read-wide-2
-shared-slice-read-wide-2 c = search rules
+bounds-part-at-2 : tie.Need-bounds-part-at-2
+bounds-part-at-2 c = search rules
 
 wide-requires-2 : tie.Need-wide-requires-2
 wide-requires-2 c κs = search rules
 
-mul-result : tie.Need-overflow-mul-result
-mul-result c = search rules
+overflow_mul-result : tie.Need-overflow_mul-result
+overflow_mul-result c = search rules
 
-add-result : tie.Need-overflow-add-result
-add-result c = search rules
+overflow_add-result : tie.Need-overflow_add-result
+overflow_add-result c = search rules
 
 returns : tie.Need-returns
 returns c =
@@ -39,15 +39,15 @@ returns c =
       number_at_one l (at + 1),
     )
 
-pub word-spec : {M : Type 1} → statement M
-word-spec =
+pub word_spec : {M : Type 1} → statement M
+word_spec =
     tie.close
     (tie.spec
-    shared-slice-read-wide
+    bounds-part-at
     wide-requires
-    add_wide
-    shared-slice-read-wide-2
+    overflow_add-at
+    bounds-part-at-2
     wide-requires-2
-    mul-result
-    add-result
+    overflow_mul-result
+    overflow_add-result
     returns)

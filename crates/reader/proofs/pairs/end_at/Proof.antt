@@ -5,19 +5,19 @@ use Rattle.cases.proofs.PartedLaws.{end_at_sum}
 use Rattle.reader.proofs.pairs.end_at.Statement.{statement}
 use Rattle.reader.proofs.pairs.end_at.Tie as tie
 
-offset-at-requires : tie.Need-offset-at-requires
-offset-at-requires c κs = search rules
+offset_at-requires : tie.Need-offset_at-requires
+offset_at-requires c κs = search rules
 
-length-at-requires : tie.Need-length-at-requires
-length-at-requires c κs = search rules
+length_at-requires : tie.Need-length_at-requires
+length_at-requires c κs = search rules
 
-add-result : tie.Need-overflow-add-result
-add-result c = search rules
+overflow_add-result : tie.Need-overflow_add-result
+overflow_add-result c = search rules
 
 returns : tie.Need-returns
 returns c =
     let s = c.before.before.before in
     omega (arith, end_at_sum s.args.file.now s.args.i)
 
-pub end-at-spec : {M : Type 1} → statement M
-end-at-spec = tie.close (tie.spec offset-at-requires length-at-requires add-result returns)
+pub end_at_spec : {M : Type 1} → statement M
+end_at_spec = tie.close (tie.spec offset_at-requires length_at-requires overflow_add-result returns)

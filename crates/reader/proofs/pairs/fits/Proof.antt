@@ -10,18 +10,18 @@ use Rattle.cases.proofs.RefusalsLaws.{fits_counted}
 use Rattle.reader.proofs.pairs.fits.Statement.{statement}
 use Rattle.reader.proofs.pairs.fits.Tie as tie
 
-mul-result : tie.Need-overflow-mul-result
-mul-result c =
+overflow_mul-result : tie.Need-overflow_mul-result
+overflow_mul-result c =
     let a = c.before.args in
     let few = mul-le-mul_left a.width (min-le_left (a.bytes / a.width) a.most) in
-    omega (arith, mul-div-le a.bytes a.width, few, ap (λ n. a.width * n) c.up_to_lem.ensures)
+    omega (arith, mul-div-le a.bytes a.width, few, ap (λ n. a.width * n) c.up_to-n.ensures)
 
 returns : tie.Need-returns
 returns c =
     let s = c.before in
     let a = s.args in
-    ap (λ n. eqb (a.width * n) a.bytes && leb 1 n) c.up_to_lem.ensures
+    ap (λ n. eqb (a.width * n) a.bytes && leb 1 n) c.up_to-n.ensures
     ∙ fits_counted a.width a.most a.bytes s.requires.0
 
-pub fits-spec : {M : Type 1} → statement M
-fits-spec = tie.close (tie.spec (λ c κs. search rules) mul-result returns)
+pub fits_spec : {M : Type 1} → statement M
+fits_spec = tie.close (tie.spec (λ c κs. search rules) overflow_mul-result returns)

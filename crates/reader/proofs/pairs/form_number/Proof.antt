@@ -25,5 +25,5 @@ returns c =
     ∙ ap (λ s. number_at s 0 2) section.section.ensures
     ∙ sym (number_section section.before.before.args.file.now)
 
-pub form-number-spec : {M : Type 1} → statement M
-form-number-spec = tie.close (tie.spec section-requires (λ c κs. search rules) returns)
+pub form_number_spec : {M : Type 1} → statement M
+form_number_spec = tie.close (tie.spec section-requires (λ c κs. search rules) returns)

@@ -5,19 +5,19 @@ use Rattle.cases.proofs.PartedLaws.{offset_at_word}
 use Rattle.reader.proofs.pairs.offset_at.Statement.{statement}
 use Rattle.reader.proofs.pairs.offset_at.Tie as tie
 
-mul-word : tie.Need-overflow-mul-word
-mul-word c = search rules
+overflow_mul-i : tie.Need-overflow_mul-i
+overflow_mul-i c = search rules
 
 word-requires : tie.Need-word-requires
 word-requires c κs = search rules
 
-cast-result : tie.Need-overflow-cast-result
-cast-result c = search rules
+overflow_cast-result : tie.Need-overflow_cast-result
+overflow_cast-result c = search rules
 
 returns : tie.Need-returns
 returns c =
     let s = c.before.before in
     (c.word.ensures ∙ offset_at_word s.args.file.now s.args.i, search rules)
 
-pub offset-at-spec : {M : Type 1} → statement M
-offset-at-spec = tie.close (tie.spec mul-word word-requires cast-result returns)
+pub offset_at_spec : {M : Type 1} → statement M
+offset_at_spec = tie.close (tie.spec overflow_mul-i word-requires overflow_cast-result returns)

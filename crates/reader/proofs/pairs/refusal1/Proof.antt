@@ -13,56 +13,56 @@ use Rattle.cases.proofs.PartedLaws.{refusal1_short, refusal1_pairs}
 use Rattle.reader.proofs.pairs.refusal1.Statement.{statement}
 use Rattle.reader.proofs.pairs.refusal1.Tie as tie
 
-returns : tie.Need-returns
-returns c =
+returns-then-file : tie.Need-returns-then-file
+returns-then-file c =
     let file = c.before.before.args.file.now in
     sym (refusal1_short file (omega (arith, four_sections (known file))))
 
 -- how many sections the file has
-abbrev file : tie.After-sections-of → List ℕ
+abbrev file : tie.After-sections_of-sections → List ℕ
 file c = c.before.before.before.args.file.now
 
-four : (c : tie.After-sections-of) → 4 ≤ c.sections-of.result
-four c = omega (arith, c.sections-of.ensures, four_sections (known (file c)))
+four : (c : tie.After-sections_of-sections) → 4 ≤ c.sections_of-sections.result
+four c = omega (arith, c.sections_of-sections.ensures, four_sections (known (file c)))
 
-mul-if2 : tie.Need-overflow-mul-if2
-mul-if2 c = omega (arith, c.sections-of.ensures, five_sections (known (file c)))
+overflow_mul-sections : tie.Need-overflow_mul-sections
+overflow_mul-sections c = omega (arith, c.sections_of-sections.ensures, five_sections (known (file c)))
 
-returns-2 : tie.Need-returns-2
-returns-2 c =
+returns-then-file-sections : tie.Need-returns-then-file-sections
+returns-then-file-sections c =
     let call = c.before in
-    sym (refusal1_short (file call) (omega (arith, call.sections-of.ensures)))
+    sym (refusal1_short (file call) (omega (arith, call.sections_of-sections.ensures)))
 
 linked-requires : tie.Need-linked-requires
 linked-requires c κs = (omega (arith, four c.before), omega arith)
 
-sub-end-at : tie.Need-overflow-sub-end-at
-sub-end-at c = omega (arith, four c.before.before)
+overflow_sub-sections : tie.Need-overflow_sub-sections
+overflow_sub-sections c = omega (arith, four c.before.before)
 
-end-at-requires : tie.Need-end-at-requires
-end-at-requires c κs = omega (arith, four c.before.before)
+end_at-requires : tie.Need-end_at-requires
+end_at-requires c κs = omega (arith, four c.before.before)
 
-returns-3 : tie.Need-returns-3
-returns-3 c =
+returns : tie.Need-returns
+returns c =
     let end = c.before in
     let link = end.before in
     let call = link.before.before in
-    (λ j. not (eqb (c.offset_at.ensures.0 j) (4 * call.sections-of.result)
-    && (link.linked.ensures j && eqb (end.end-at.ensures j) (length (file call)))))
-    ∙ refusal1_pairs (file call) call.sections-of.result call.sections-of.ensures (omega arith)
+    (λ j. not (eqb (c.offset_at.ensures.0 j) (4 * call.sections_of-sections.result)
+    && (link.linked.ensures j && eqb (end.end_at.ensures j) (length (file call)))))
+    ∙ refusal1_pairs (file call) call.sections_of-sections.result call.sections_of-sections.ensures (omega arith)
 
-pub refusal1-spec : {M : Type 1} → statement M
-refusal1-spec =
+pub refusal1_spec : {M : Type 1} → statement M
+refusal1_spec =
     tie.close
     (tie.spec
     (λ c. search rules)
-    returns
+    returns-then-file
     (λ c κs. search rules)
-    mul-if2
-    returns-2
+    overflow_mul-sections
+    returns-then-file-sections
     linked-requires
-    sub-end-at
-    end-at-requires
+    overflow_sub-sections
+    end_at-requires
     (λ c κs. search rules)
     (λ c. search rules)
-    returns-3)
+    returns)

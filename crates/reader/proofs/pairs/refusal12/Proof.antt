@@ -11,35 +11,35 @@ use Rattle.cases.proofs.AcceptedLaws.{linked}
 use Rattle.reader.proofs.pairs.refusal12.Statement.{statement}
 use Rattle.reader.proofs.pairs.refusal12.Tie as tie
 
-sections-of-requires : tie.Need-sections-of-requires
-sections-of-requires c κs =
+sections_of-requires : tie.Need-sections_of-requires
+sections_of-requires c κs =
     let s = c.before in
     let file = s.args.file.now in
     omega (arith, (linked file s.requires).long, four_sections (known file))
 
-returns : tie.Need-returns
-returns c =
+returns-then-sections_of-eq-OLD_SECTIONS : tie.Need-returns-then-sections_of-eq-OLD_SECTIONS
+returns-then-sections_of-eq-OLD_SECTIONS c =
     let call = c.before in
     let file = call.before.before.args.file.now in
-    sym (refusal12_old file (four_old file (sym call.sections-of.ensures ∙ c.if1.true)))
+    sym (refusal12_old file (four_old file (sym call.sections_of.ensures ∙ c.if-sections_of-eq-OLD_SECTIONS.true)))
 
 -- more sections than the old form has
-abbrev file : tie.Else1 → List ℕ
+abbrev file : tie.Else-sections_of-eq-OLD_SECTIONS → List ℕ
 file c = c.before.before.before.args.file.now
 
-late : (c : tie.Else1) → offset_at (file c) 0 ≡ old_front → ⊥
-late c = more_late (file c) (λ e. c.if1.false (c.before.sections-of.ensures ∙ e))
+late : (c : tie.Else-sections_of-eq-OLD_SECTIONS) → offset_at (file c) 0 ≡ old_front → ⊥
+late c = more_late (file c) (λ e. c.if-sections_of-eq-OLD_SECTIONS.false (c.before.sections_of.ensures ∙ e))
 
-form-number-requires : tie.Need-form-number-requires
-form-number-requires c κs = (c.before.before.before.requires, length_numbered (file c) (late c))
+form_number-number-requires : tie.Need-form_number-number-requires
+form_number-number-requires c κs = (c.before.before.before.requires, length_numbered (file c) (late c))
 
-returns-2 : tie.Need-returns-2
-returns-2 c =
+returns : tie.Need-returns
+returns c =
     let here = c.before in
     sym
     (refusal12_late (file here) (late here)
-    ∙ ap (unknown numbered) (sym c.form-number.ensures)
-    ∙ unknown_is c.form-number.result)
+    ∙ ap (unknown numbered) (sym c.form_number-number.ensures)
+    ∙ unknown_is c.form_number-number.result)
 
-pub refusal12-spec : {M : Type 1} → statement M
-refusal12-spec = tie.close (tie.spec sections-of-requires returns form-number-requires returns-2)
+pub refusal12_spec : {M : Type 1} → statement M
+refusal12_spec = tie.close (tie.spec sections_of-requires returns-then-sections_of-eq-OLD_SECTIONS form_number-number-requires returns)

@@ -9,11 +9,11 @@ use Rattle.reader.proofs.SectionsLaws.{order_last}
 use Rattle.reader.proofs.sections.order_at.Statement.{statement}
 use Rattle.reader.proofs.sections.order_at.Tie as tie
 
-sub-last : tie.Need-overflow-sub-last
-sub-last c = omega (arith, c.hour.ensures, hour_some c.before.before.args.form)
+overflow_sub-last : tie.Need-overflow_sub-last
+overflow_sub-last c = omega (arith, c.hour.ensures, hour_some c.before.before.args.form)
 
-shared-slice-read-result : tie.Need-shared-slice-read-result
-shared-slice-read-result c =
+bounds-part-last : tie.Need-bounds-part-last
+bounds-part-last c =
     let call = c.before in
     omega (arith, call.hour.ensures, hour_some call.before.before.args.form)
 
@@ -24,6 +24,6 @@ returns c =
     ap (λ n. get_or a.part.now (a.at + (n - 1)) 0) call.hour.ensures
     ∙ order_last a.form a.part.now a.at
 
-pub order-at-spec : {M : Type 1} → statement M
-order-at-spec =
-    tie.close (tie.spec (λ c κs. search rules) sub-last (λ c. search rules) shared-slice-read-result returns)
+pub order_at_spec : {M : Type 1} → statement M
+order_at_spec =
+    tie.close (tie.spec (λ c κs. search rules) overflow_sub-last (λ c. search rules) bounds-part-last returns)

@@ -12,65 +12,65 @@ use Rattle.cases.proofs.FilledLaws.{Filled, filled_start, filled_step, filled_en
 use Rattle.reader.proofs.sections.read_trajectory.Statement.{statement}
 use Rattle.reader.proofs.sections.read_trajectory.Tie as tie
 
-abbrev invariant-loop : tie.invariant-loop
-invariant-loop part count outputs₀ i₀ outputs i = Filled no_output (stage_at part) count most_stages outputs i
+abbrev invariant-loop-i : tie.invariant-loop-i
+invariant-loop-i part count outputs₀ i₀ outputs i = Filled no_output (stage_at part) count most_stages outputs i
 
-abbrev decreases-loop : tie.decreases-loop
-decreases-loop part count outputs₀ i₀ outputs i = count - i
+abbrev decreases-loop-i : tie.decreases-loop-i
+decreases-loop-i part count outputs₀ i₀ outputs i = count - i
 
-loop-holds : tie.Need-loop-init invariant-loop decreases-loop
-loop-holds c = filled_start no_output _ _ most_stages
+loop-i-init : tie.Need-loop-i-init invariant-loop-i decreases-loop-i
+loop-i-init c = filled_start no_output _ _ most_stages
 
-mul-word : tie.Need-overflow-mul-word invariant-loop decreases-loop
-mul-word c = omega (arith, c.before.before.whole.ensures)
+overflow_mul-i : tie.Need-overflow_mul-i invariant-loop-i decreases-loop-i
+overflow_mul-i c = omega (arith, c.before.before.whole-count.ensures)
 
-word-requires : tie.Need-word-requires invariant-loop decreases-loop
-word-requires c κs = omega (arith, c.before.before.whole.ensures)
+word-requires : tie.Need-word-requires invariant-loop-i decreases-loop-i
+word-requires c κs = omega (arith, c.before.before.whole-count.ensures)
 
-mul-outputs : tie.Need-overflow-mul-outputs invariant-loop decreases-loop
-mul-outputs c = omega (arith, c.before.before.before.whole.ensures)
+offset_bounds-outputs-i : tie.Need-offset_bounds-outputs-i invariant-loop-i decreases-loop-i
+offset_bounds-outputs-i c = omega (arith, c.before.before.before.whole-count.ensures)
 
-array-set-from-outputs : tie.Need-array-set-from-outputs invariant-loop decreases-loop
-array-set-from-outputs c = omega (arith, c.before.before.before.whole.ensures)
+bounds-outputs-i : tie.Need-bounds-outputs-i invariant-loop-i decreases-loop-i
+bounds-outputs-i c = omega (arith, c.before.before.before.whole-count.ensures)
 
-add-i : tie.Need-overflow-add-i invariant-loop decreases-loop
-add-i c = omega (arith, c.before.before.before.whole.ensures)
+overflow_add-i : tie.Need-overflow_add-i invariant-loop-i decreases-loop-i
+overflow_add-i c = omega (arith, c.before.before.before.whole-count.ensures)
 
-loop-less : tie.Need-loop-smaller invariant-loop decreases-loop
-loop-less c = omega arith
+loop-i-smaller : tie.Need-loop-i-smaller invariant-loop-i decreases-loop-i
+loop-i-smaller c = omega arith
 
-loop-again : tie.Need-loop-preserved invariant-loop decreases-loop
-loop-again c =
+loop-i-preserved : tie.Need-loop-i-preserved invariant-loop-i decreases-loop-i
+loop-i-preserved c =
     let at = c.before.before in
-    let count = at.before.whole in
+    let count = at.before.whole-count in
     let part = at.before.before.before.args.part.now in
     let x : Output = record { 0 = c.word.result } in
-    filled_step no_output (stage_at part) count.result most_stages x at.loop.invariant (omega arith)
+    filled_step no_output (stage_at part) count.result most_stages x at.loop-i.invariant (omega arith)
     (omega (arith, count.ensures)) (λ j. record { 0 = c.word.ensures j })
 
-returns : tie.Need-returns invariant-loop decreases-loop
+returns : tie.Need-returns invariant-loop-i decreases-loop-i
 unfolding trajectory_of
 returns c =
     let at = c.before in
-    let count = at.before.whole in
+    let count = at.before.whole-count in
     let part = at.before.before.before.args.part.now in
-    let e = filled_end no_output (stage_at part) count.result most_stages at.loop.invariant (omega arith)
+    let e = filled_end no_output (stage_at part) count.result most_stages at.loop-i.invariant (omega arith)
     ∙ ap (λ n. padded no_output (stage_at part) n most_stages) count.ensures in
     λ j. record { outputs = e j; count = count.ensures j }
 
-pub read-trajectory-spec : {M : Type 1} → statement M
-read-trajectory-spec =
+pub read_trajectory_spec : {M : Type 1} → statement M
+read_trajectory_spec =
     tie.close
     (tie.spec
-    invariant-loop
-    decreases-loop
+    invariant-loop-i
+    decreases-loop-i
     (λ c κs. search rules)
-    loop-holds
-    mul-word
+    loop-i-init
+    overflow_mul-i
     word-requires
-    mul-outputs
-    array-set-from-outputs
-    add-i
-    loop-less
-    loop-again
+    offset_bounds-outputs-i
+    bounds-outputs-i
+    overflow_add-i
+    loop-i-smaller
+    loop-i-preserved
     returns)

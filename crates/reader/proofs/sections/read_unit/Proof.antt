@@ -50,19 +50,19 @@ returns c =
     let s = b.before.before.before in
     λ i. record {
       capacity = record { 0 = f.before.word.ensures i };
-      minimum = record { 0 = f.word2.ensures i };
-      rampup = record { 0 = m.before.before.before.before.word3.ensures i };
-      rampdown = record { 0 = m.before.before.before.word4.ensures i };
-      minup = record { 0 = m.before.before.word5.ensures i };
-      mindown = record { 0 = m.before.word6.ensures i };
+      minimum = record { 0 = f.word-2.ensures i };
+      rampup = record { 0 = m.before.before.before.before.word-3.ensures i };
+      rampdown = record { 0 = m.before.before.before.word-4.ensures i };
+      minup = record { 0 = m.before.before.word-5.ensures i };
+      mindown = record { 0 = m.before.word-6.ensures i };
       variable = record { 0 = m.mills.ensures i };
-      fixed = record { 0 = c.before.before.before.before.mills2.ensures i };
-      startcost = record { 0 = c.before.before.before.mills3.ensures i };
-      stopcost = record { 0 = c.before.before.mills4.ensures i };
-      initial = record { 0 = c.before.word7.ensures i };
-      elapsed = record { 0 = c.word8.ensures i };
-      upstage = b.before.byte.ensures i;
-      downstage = b.byte2.ensures i;
+      fixed = record { 0 = c.before.before.before.before.mills-2.ensures i };
+      startcost = record { 0 = c.before.before.before.mills-3.ensures i };
+      stopcost = record { 0 = c.before.before.mills-4.ensures i };
+      initial = record { 0 = c.before.word-7.ensures i };
+      elapsed = record { 0 = c.word-8.ensures i };
+      upstage = b.before.byte-upstage.ensures i;
+      downstage = b.byte-downstage.ensures i;
       rise = s.args.rise.outputs;
       fall = s.args.fall.outputs;
       prices = s.args.day.prices;
@@ -72,8 +72,8 @@ returns c =
       hours = s.args.day.count;
     }
 
-pub read-unit-spec : {M : Type 1} → statement M
-read-unit-spec =
+pub read_unit_spec : {M : Type 1} → statement M
+read_unit_spec =
     tie.close
     (tie.spec
     (λ c κs. search rules)

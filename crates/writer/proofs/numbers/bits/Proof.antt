@@ -45,7 +45,7 @@ unfolding unsigned
 at_least (pos n) f e = ((tt, record { fits = omega (arith, f.sfits) }), refl)
 at_least (negsuc n) f e = absurd (true≢false e)
 
-module _ (c : tie.After-struct-told2) where
+module _ (c : tie.After-struct_told-then-mills-lt0-1) where
   abbrev mills : ℤ
   mills = c.before.before.before.before.before.args.mills.0
 
@@ -53,7 +53,7 @@ module _ (c : tie.After-struct-told2) where
   fits = search rules
 
   negative : Above mills
-  negative = above mills fits (simp (to_z-of_z fits) at c.before.before.if1.true)
+  negative = above mills fits (simp (to_z-of_z fits) at c.before.before.if-mills-lt0.true)
 
   room : SFits w32 (pos negative.by)
   room = record { sfits = negative.low }
@@ -61,19 +61,19 @@ module _ (c : tie.After-struct-told2) where
   read : to_z w32 (of_z w32 (to_z w32 (of_z w32 mills) -ℤ least)) ≡ pos negative.by
   read = simp (to_z-of_z fits, negative.is) (to_z-of_z room)
 
-sub-result : tie.Need-overflow-sub-result
-sub-result c = simp (to_z-of_z (fits c), (negative c).is) (room c)
+overflow_sub-result : tie.Need-overflow_sub-result
+overflow_sub-result c = simp (to_z-of_z (fits c), (negative c).is) (room c)
 
-cast-result : tie.Need-overflow-cast-result
-cast-result c = simp (read c) (tt, record { fits = omega (arith, (negative c).low) })
+overflow_cast-result : tie.Need-overflow_cast-result
+overflow_cast-result c = simp (read c) (tt, record { fits = omega (arith, (negative c).low) })
 
-add-result : tie.Need-overflow-add-result
-add-result c = simp (read c) (record { fits = omega (arith, (negative c).low) })
+overflow_add-result : tie.Need-overflow_add-result
+overflow_add-result c = simp (read c) (record { fits = omega (arith, (negative c).low) })
 
-returns : tie.Need-returns
-returns c = simp (read c) (negative c).bits
+returns-then-mills-lt0 : tie.Need-returns-then-mills-lt0
+returns-then-mills-lt0 c = simp (read c) (negative c).bits
 
-module _ (c : tie.After-struct-told3) where
+module _ (c : tie.After-struct_told-2-1) where
   abbrev mills2 : ℤ
   mills2 = c.before.before.before.before.before.args.mills.0
 
@@ -81,13 +81,13 @@ module _ (c : tie.After-struct-told3) where
   fits2 = search rules
 
   whole : (T (non_neg mills2) × Fits w32 (nat_abs mills2)) × (nat_abs mills2 ≡ unsigned mills2)
-  whole = at_least mills2 fits2 (simp (to_z-of_z fits2) at c.before.before.if1.false)
+  whole = at_least mills2 fits2 (simp (to_z-of_z fits2) at c.before.before.if-mills-lt0.false)
 
-cast-result-2 : tie.Need-overflow-cast-result-2
-cast-result-2 c = simp (to_z-of_z (fits2 c)) (whole c).0
+overflow_cast-result-2 : tie.Need-overflow_cast-result-2
+overflow_cast-result-2 c = simp (to_z-of_z (fits2 c)) (whole c).0
 
-returns-2 : tie.Need-returns-2
-returns-2 c = simp (to_z-of_z (fits2 c)) (whole c).1
+returns : tie.Need-returns
+returns c = simp (to_z-of_z (fits2 c)) (whole c).1
 
-pub bits-spec : {M : Type 1} → statement M
-bits-spec = tie.close (tie.spec sub-result cast-result add-result returns cast-result-2 returns-2)
+pub bits_spec : {M : Type 1} → statement M
+bits_spec = tie.close (tie.spec overflow_sub-result overflow_cast-result overflow_add-result returns-then-mills-lt0 overflow_cast-result-2 returns)

@@ -6,14 +6,14 @@ use Rattle.writer.proofs.numbers.put_mills.Tie as tie
 bits-requires : tie.Need-bits-requires
 bits-requires c κs = search rules
 
-put-long-requires : tie.Need-put-long-requires
-put-long-requires c κs = search rules
+put_long-requires : tie.Need-put_long-requires
+put_long-requires c κs = search rules
 
-same_length : tie.Need-same-length
-same_length c = search rules
+shape_of-out : tie.Need-shape_of-out
+shape_of-out c = search rules
 
 returns : tie.Need-returns
 returns c = cc
 
-pub put-mills-spec : {M : Type 1} → statement M
-put-mills-spec = tie.close (tie.spec bits-requires put-long-requires same_length returns)
+pub put_mills_spec : {M : Type 1} → statement M
+put_mills_spec = tie.close (tie.spec bits-requires put_long-requires shape_of-out returns)
