@@ -4,6 +4,8 @@
 // those below the first that is good for its last place, are no better for any place of the block. How good is good is
 // found near the places that were good for the block before. The definitions are those of specs/Sweeps, specs/Offers
 // and specs/Cuts. Each function is called by crates of this repository, which keep what it asks for.
+#![tactic(auto)]
+
 ghost use Rattle.std.specs.Prelude.{◌≡◌, ◌+◌, ◌-◌, ◌≤◌, ◌<◌, max, length, pos, ◌-ℤ◌};
 ghost use Rattle.machine.specs.Bounds.{most_energy};
 ghost use Rattle.machine.specs.Lengths.{row_length};

@@ -1,6 +1,8 @@
 // The lowest rule that an hour breaks; 0 where it breaks none. The rules stand in groups, the later ones first: each
 // group is given the number of those after it (specs/Groups). Only other crates of this repository call what has a
 // `requires` here, with a case within the limits and the numbers of an hour.
+#![tactic(auto)]
+
 pub mod limits;
 pub mod times;
 

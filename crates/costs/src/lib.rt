@@ -2,6 +2,8 @@
 // tested once against refusal 16 and passed by value; the costs at each energy, taken to the nearest whole number of
 // half-mills, fill a lent table. Nothing divides: digits are shifted. The definitions are those of curve's specs/Cost
 // and specs/Pattern.
+#![tactic(auto)]
+
 ghost use Rattle.std.specs.Prelude.{◌≡◌, ◌++◌, ◌+◌, ◌%◌, ◌^◌, ◌≤◌, ◌<◌, T, pos, length, drop};
 ghost use Rattle.std.specs.Float.Ieee.{eq};
 ghost use Rattle.std.specs.Float.Ieee.Nearest.{closest};

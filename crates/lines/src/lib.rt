@@ -1,6 +1,8 @@
 // The lines of the program's text, put into lent bytes from a place on (model's specs/Printed). Each function leaves
 // every other byte as it was and returns the place past its lines. The functions are called by crates of this
 // repository, which keep what they ask for.
+#![tactic(auto)]
+
 pub mod parts;
 
 ghost use Rattle.std.specs.Prelude.{◌++◌, ◌+◌, ◌≤◌, length};

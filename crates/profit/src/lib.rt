@@ -1,6 +1,8 @@
 // The profit of a list, exact to the half-mill (day's specs/Profit), in one pass over its hours: a day stays within
 // `most_profit` of machine's specs/Bounds. Only other crates of this repository call what has a `requires` here, with a
 // case within the limits.
+#![tactic(auto)]
+
 ghost use Rattle.std.specs.Prelude.{◌≡◌, List, ℕ, ◌*◌, ◌≤◌, nat_abs};
 ghost use Rattle.cases.specs.Refusals.{refusal_of};
 ghost use Rattle.day.specs.Profit.{profit_at, profit_of};

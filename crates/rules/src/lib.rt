@@ -2,6 +2,8 @@
 // (model's specs/Answers say which). A refused reading is answered by its number. The record of an accepted one is
 // tested again, 2 to 8 and 13, so that no reading has to be trusted; then 9, for a list that is not of T outputs. The
 // work grows with the hours, and in the hours of a start-up or a shut-down with its trajectory. The list is only read.
+#![tactic(auto)]
+
 pub mod breach;
 
 ghost use Rattle.std.specs.Prelude.{◌≡◌, length};

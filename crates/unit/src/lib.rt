@@ -1,5 +1,7 @@
 // The unit of a case as the search sees it, the margins, orders and charges of its hours, and the state in which its
 // day opens (machine's specs/Cases). For the crates of this repository, which call it with a case within the limits.
+#![tactic(auto)]
+
 ghost use Rattle.std.specs.Prelude.{◌≡◌, ◌≤◌, get_or, replicate, pos, ◌-ℤ◌};
 ghost use Rattle.cases.specs.Limits.{most_stages, most_hours};
 ghost use Rattle.cases.specs.Layout.{padded, no_output, no_mills};

@@ -9,47 +9,47 @@ use Rattle.blocks.proofs.cut_of.Statement.{statement}
 use Rattle.blocks.proofs.cut_of.Tie as tie
 
 -- the function's start
-abbrev entry : tie.Else1 → tie.Start
+abbrev entry : tie.Else-right-left → tie.Start
 entry c = c.before.before.before
 
 -- the places in common can offer to the block's last place
-ready : (c : tie.Else1) → let a = (entry c).args in
-    Ready a.old.now a.costs.now (a.base + a.r) c.before.least.result
-ready c = ready_less (entry c).requires.1 _ _ (omega arith) (omega (arith, c.before.least.ensures))
+ready : (c : tie.Else-right-left) → let a = (entry c).args in
+    Ready a.old.now a.costs.now (a.base + a.r) c.before.least-right.result
+ready c = ready_less (entry c).requires.1 _ _ (omega arith) (omega (arith, c.before.least-right.ensures))
+
+returns-then-right-left : tie.Need-returns-then-right-left
+returns-then-right-left c = enough_whole
+
+highest-high-requires : tie.Need-highest-high-requires
+highest-high-requires c κs =
+    let l = c.before.before in
+    (ready_less (ready l.before.before) _ _ (omega arith) (omega arith), c.before.ends_near-e.ensures.0)
 
 returns : tie.Need-returns
-returns c = enough_whole
-
-highest-requires : tie.Need-highest-requires
-highest-requires c κs =
-    let l = c.before.before in
-    (ready_less (ready l) _ _ (omega arith) (omega arith), c.before.ends-near.ensures.0)
-
-returns-2 : tie.Need-returns-2
-returns-2 c =
-    let low = c.before.lowest.ensures in
-    let high = c.highest.ensures in
-    let ends = c.before.before.ends-near.ensures in
+returns c =
+    let low = c.before.lowest-low.ensures in
+    let high = c.highest-high.ensures in
+    let ends = c.before.before.ends_near-e.ensures in
     let l = c.before.before.before in
-    let s = entry l in
-    enough_shared s.pre.0.0 s.pre.0.1 s.pre.1 l.before.before.less.ensures
-    l.before.least.ensures
+    let s = entry l.before.before in
+    enough_shared s.requires.0.0 s.requires.0.1 s.requires.1 l.before.before.less-left.ensures
+    l.before.least-right.ensures
     (omega arith) low.0 high.1 ends.0 ends.1 low.2 high.2
 
-pub cut-of-spec : {M : Type 1} → statement M
-cut-of-spec =
+pub cut_of_spec : {M : Type 1} → statement M
+cut_of_spec =
     tie.close
     (tie.spec
     (λ c κs. search rules)
     (λ c. search rules)
     (λ c. search rules)
     (λ c κs. search rules)
-    returns
+    returns-then-right-left
     (λ c. search rules)
     (λ c. search rules)
     (λ c κs. (omega arith, omega arith, omega (arith, (entry c).requires.0, (entry c).requires.1.reach), ready c))
     (λ c. search rules)
-    (λ c κs. (ready c.before, c.ends-near.ensures.1))
+    (λ c κs. (ready c.before.before, c.ends_near-e.ensures.1))
     (λ c. search rules)
-    highest-requires
-    returns-2)
+    highest-high-requires
+    returns)

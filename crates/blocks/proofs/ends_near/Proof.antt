@@ -14,26 +14,26 @@ inside : (a b i j k m from to : ℕ) → a < b → k ≡ min i (b - 1) → from 
 inside a b i j k m from to h d e f g = (omega arith, omega arith, omega arith)
 
 -- where the range begins, and the function's start
-abbrev begun : tie.After-greatest2 → tie.After-greatest
+abbrev begun : tie.After-greatest-to → tie.After-greatest-from
 begun c = c.before.before.before
 
-abbrev entry : tie.After-greatest → tie.Start
+abbrev entry : tie.After-greatest-from → tie.Start
 entry f = f.before.before.before
 
 -- the range that is looked at
-ranged : (c : tie.After-greatest2)
+ranged : (c : tie.After-greatest-to)
     → let f = begun c in
-    ((entry f).args.a ≤ f.greatest.result)
-    × (f.greatest.result < c.greatest2.result)
-    × (c.greatest2.result ≤ (entry f).args.b)
+    ((entry f).args.a ≤ f.greatest-from.result)
+    × (f.greatest-from.result < c.greatest-to.result)
+    × (c.greatest-to.result ≤ (entry f).args.b)
 ranged c =
     let f = begun c in
     let s = entry f in
-    inside s.args.a s.args.b _ _ _ _ f.greatest.result c.greatest2.result s.pre.1
-    f.before.least.ensures f.greatest.ensures c.before.least2.ensures c.greatest2.ensures
+    inside s.args.a s.args.b _ _ _ _ f.greatest-from.result c.greatest-to.result s.requires.1
+    f.before.least.ensures f.greatest-from.ensures c.before.least-2.ensures c.greatest-to.ensures
 
-ends-of-requires : tie.Need-ends-of-requires
-ends-of-requires c κs =
+ends_of-requires : tie.Need-ends_of-requires
+ends_of-requires c κs =
     let r = ranged c in
     let p = (entry (begun c)).requires in
     (p.0, r.1, ready_less p.3 _ _ (omega arith) r.2)
@@ -44,8 +44,8 @@ returns c =
     let e = c.ends_of.ensures in
     (offers_wider e.0 r.0 r.2, offers_wider e.1 r.0 r.2)
 
-pub ends-near-spec : {M : Type 1} → statement M
-ends-near-spec =
+pub ends_near_spec : {M : Type 1} → statement M
+ends_near_spec =
     tie.close
     (tie.spec
     (λ c κs. search rules)
@@ -56,5 +56,5 @@ ends-near-spec =
     (λ c. search rules)
     (λ c κs. search rules)
     (λ c κs. search rules)
-    ends-of-requires
+    ends_of-requires
     returns)

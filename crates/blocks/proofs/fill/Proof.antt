@@ -11,67 +11,67 @@ use Rattle.blocks.proofs.SweepLaws.{written_join}
 use Rattle.blocks.proofs.fill.Statement.{statement}
 use Rattle.blocks.proofs.fill.Tie as tie
 
-abbrev invariant-loop : tie.invariant-loop
-invariant-loop row₀ old costs base n rd ru k₀ s₀ row k s =
+abbrev invariant-loop-s : tie.invariant-loop-s
+invariant-loop-s row₀ old costs base n rd ru k₀ s₀ row k s =
     (s ≤ n) × (k.high ≤ n) × Written row₀ row 0 s (top_of old costs base n rd ru)
 
-abbrev decreases-loop : tie.decreases-loop
-decreases-loop row₀ old costs base n rd ru k₀ s₀ row k s = n - s
+abbrev decreases-loop-s : tie.decreases-loop-s
+decreases-loop-s row₀ old costs base n rd ru k₀ s₀ row k s = n - s
 
 -- a block's start; the row can offer to the block's last place
-abbrev turn : tie.After-least invariant-loop decreases-loop → tie.At-loop invariant-loop decreases-loop
+abbrev turn : tie.After-least-e invariant-loop-s decreases-loop-s → tie.At-loop-s invariant-loop-s decreases-loop-s
 turn c = c.before.before
 
-ready : (c : tie.After-least invariant-loop decreases-loop) → let a = (turn c).before.args in
-    Ready a.old.now a.costs.now (a.base + (c.least.result - 1)) a.n
+ready : (c : tie.After-least-e invariant-loop-s decreases-loop-s) → let a = (turn c).before.args in
+    Ready a.old.now a.costs.now (a.base + (c.least-e.result - 1)) a.n
 ready c =
     let l = turn c in
-    ready_less (l.before.pre.1 (omega arith)) _ _ (omega (arith, c.least.ensures)) (omega arith)
+    ready_less (l.before.requires.1 (omega arith)) _ _ (omega (arith, c.least-e.ensures)) (omega arith)
 
-cut-of-requires : tie.Need-cut-of-requires invariant-loop decreases-loop
-cut-of-requires c κs =
+cut_of-k-requires : tie.Need-cut_of-k-requires invariant-loop-s decreases-loop-s
+cut_of-k-requires c κs =
     let l = turn c in (
-      (omega (arith, c.least.ensures), omega (arith, c.least.ensures), l.before.pre.0.1, l.loop.inv.1),
+      (omega (arith, c.least-e.ensures), omega (arith, c.least-e.ensures), l.before.requires.0.1, l.loop-s.invariant.1),
       ready c,
     )
 
-block-requires : tie.Need-block-requires invariant-loop decreases-loop
+block-requires : tie.Need-block-requires invariant-loop-s decreases-loop-s
 block-requires c κs =
     let e = c.before.before in
     let l = turn e in
-    let s = l.before.pre.0 in (
+    let s = l.before.requires.0 in (
       (
-        omega (arith, e.least.ensures),
-        omega (arith, e.least.ensures),
-        omega (arith, s.0, l.loop.inv.2.long),
+        omega (arith, e.least-e.ensures),
+        omega (arith, e.least-e.ensures),
+        omega (arith, s.0, l.loop-s.invariant.2.long),
         s.1,
       ),
-      (ready e, c.before.cut_of.ensures),
+      (ready e, c.before.cut_of-k.ensures),
     )
 
-loop-again : tie.Need-loop-preserved invariant-loop decreases-loop
-loop-again c =
+loop-s-preserved : tie.Need-loop-s-preserved invariant-loop-s decreases-loop-s
+loop-s-preserved c =
     let k = c.before.before.before in
     let e = k.before in
-    let h : (turn e).loop.s ≤ e.least.result = omega (arith, e.least.ensures) in (
-      omega (arith, e.least.ensures),
-      k.cut_of.ensures.within,
-      written_join (turn e).loop.invariant.2 c.before.block.ensures h,
+    let h : (turn e).loop-s.s ≤ e.least-e.result = omega (arith, e.least-e.ensures) in (
+      omega (arith, e.least-e.ensures),
+      k.cut_of-k.ensures.within,
+      written_join (turn e).loop-s.invariant.2 c.before.block.ensures h,
     )
 
 pub fill_spec : {M : Type 1} → statement M
 fill_spec =
     tie.close
     (tie.spec
-    invariant-loop
-    decreases-loop
+    invariant-loop-s
+    decreases-loop-s
     (λ c. (omega arith, omega arith, written_start _ _ _ _ (omega arith)))
     (λ c. omega (arith, (c.before.before.requires.1 (omega arith)).reach))
     (λ c κs. search rules)
-    (λ c. omega (arith, c.least.ensures))
-    cut-of-requires
+    (λ c. omega (arith, c.least-e.ensures))
+    cut_of-k-requires
     block-requires
-    (λ c. omega (arith, c.before.before.before.before.least.ensures))
-    loop-again
-    (λ c. c.before.loop.invariant.2.long)
-    (λ c. written_to (omega arith) c.before.loop.invariant.2))
+    (λ c. omega (arith, c.before.before.before.before.least-e.ensures))
+    loop-s-preserved
+    (λ c. c.before.loop-s.invariant.2.long)
+    (λ c. written_to (omega arith) c.before.loop-s.invariant.2))

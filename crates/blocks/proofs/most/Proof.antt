@@ -12,51 +12,51 @@ use Rattle.blocks.proofs.TopLaws.{largest_none}
 use Rattle.blocks.proofs.most.Statement.{statement}
 use Rattle.blocks.proofs.most.Tie as tie
 
-abbrev invariant-loop : tie.invariant-loop
-invariant-loop old costs at a b top₀ q₀ top q = (a ≤ q) × (q ≤ max a b) × (top.0 ≡ most_of old costs at a q)
+abbrev invariant-loop-q : tie.invariant-loop-q
+invariant-loop-q old costs at a b top₀ q₀ top q = (a ≤ q) × (q ≤ max a b) × (top.0 ≡ most_of old costs at a q)
 
-abbrev decreases-loop : tie.decreases-loop
-decreases-loop old costs at a b top₀ q₀ top q = b - q
+abbrev decreases-loop-q : tie.decreases-loop-q
+decreases-loop-q old costs at a b top₀ q₀ top q = b - q
 
-loop-holds : tie.Need-loop-init invariant-loop decreases-loop
-loop-holds c =
+loop-q-init : tie.Need-loop-q-init invariant-loop-q decreases-loop-q
+loop-q-init c =
     let s = c.before.args in
     let f = offered s.old.now s.costs.now s.at in
-    (omega arith, omega arith, c.none.ensures ∙ sym (largest_empty missing f s.a s.a (omega arith)))
+    (omega arith, omega arith, c.none-top.ensures ∙ sym (largest_empty missing f s.a s.a (omega arith)))
 
-offer-requires : tie.Need-offer-requires invariant-loop decreases-loop
+offer-requires : tie.Need-offer-requires invariant-loop-q decreases-loop-q
 offer-requires c κs = ready_less c.before.before.before.requires _ _ (omega arith) (omega arith)
 
-loop-again : tie.Need-loop-preserved invariant-loop decreases-loop
-loop-again c =
+loop-q-preserved : tie.Need-loop-q-preserved invariant-loop-q decreases-loop-q
+loop-q-preserved c =
     let l = c.before.before.before in
     let s = l.before.before.args in
     let f = offered s.old.now s.costs.now s.at in (
       omega arith,
       omega arith,
-      c.larger-of.ensures
-          ∙ cc (c.before.offer.ensures, l.loop.invariant.2)
-          ∙ largest_next missing f s.a l.loop.q (omega arith),
+      c.larger_of-top.ensures
+          ∙ cc (c.before.offer.ensures, l.loop-q.invariant.2)
+          ∙ largest_next missing f s.a l.loop-q.q (omega arith),
     )
 
-returns : tie.Need-returns invariant-loop decreases-loop
+returns : tie.Need-returns invariant-loop-q decreases-loop-q
 returns c =
-    let l = c.before.loop in
+    let l = c.before.loop-q in
     let s = c.before.before.before.args in
     l.invariant.2 ∙ largest_none missing (offered s.old.now s.costs.now s.at) s.a s.b l.q (omega arith)
     (omega (arith, l.invariant.1)) (omega arith)
 
-pub most-spec : {M : Type 1} → statement M
-most-spec =
+pub most_spec : {M : Type 1} → statement M
+most_spec =
     tie.close
     (tie.spec
-    invariant-loop
-    decreases-loop
+    invariant-loop-q
+    decreases-loop-q
     (λ c κs. search rules)
-    loop-holds
+    loop-q-init
     offer-requires
     (λ c κs. search rules)
     (λ c. omega arith)
     (λ c. omega arith)
-    loop-again
+    loop-q-preserved
     returns)

@@ -12,8 +12,8 @@ fill-requires c κs =
     let b = s.requires.1 in
     ((omega (arith, z.long), omega (arith, z.up_le)), sized_ready s.args.base z b.0 b.1)
 
-settle-row-requires : tie.Need-settle-row-requires
-settle-row-requires c κs =
+settle_row-requires : tie.Need-settle_row-requires
+settle_row-requires c κs =
     let w = c.before.fill.ensures in
     let s = c.before.before.before.before.before in
     let z = s.requires.0 in
@@ -24,7 +24,7 @@ returns : tie.Need-returns
 returns c =
     let f = c.before.before in
     let s = f.before.before.before.before in
-    filled_swept s.args.base s.requires.0 f.fill.ensures c.settle-row.ensures
+    filled_swept s.args.base s.requires.0 f.fill.ensures c.settle_row.ensures
 
-pub sweep-spec : {M : Type 1} → statement M
-sweep-spec = tie.close (tie.spec (λ c. search rules) fill-requires settle-row-requires returns)
+pub sweep_spec : {M : Type 1} → statement M
+sweep_spec = tie.close (tie.spec (λ c. search rules) fill-requires settle_row-requires returns)

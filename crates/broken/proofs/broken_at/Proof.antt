@@ -7,20 +7,20 @@ use Rattle.broken.specs.Groups.{ramp, commitment, overlap, terms}
 use Rattle.broken.proofs.broken_at.Statement.{statement}
 use Rattle.broken.proofs.broken_at.Tie as tie
 
-broken-terms-requires : tie.Need-broken-terms-requires
-broken-terms-requires c κs = search rules
+broken_terms-terms-requires : tie.Need-broken_terms-terms-requires
+broken_terms-terms-requires c κs = search rules
 
-broken-overlap-requires : tie.Need-broken-overlap-requires
-broken-overlap-requires c κs = search rules
+broken_overlap-overlap-requires : tie.Need-broken_overlap-overlap-requires
+broken_overlap-overlap-requires c κs = search rules
 
-broken-commitment-requires : tie.Need-broken-commitment-requires
-broken-commitment-requires c κs = search rules
+broken_commitment-commitment-requires : tie.Need-broken_commitment-commitment-requires
+broken_commitment-commitment-requires c κs = search rules
 
-broken-ramp-requires : tie.Need-broken-ramp-requires
-broken-ramp-requires c κs = search rules
+broken_ramp-ramp-requires : tie.Need-broken_ramp-ramp-requires
+broken_ramp-ramp-requires c κs = search rules
 
-broken-limit-requires : tie.Need-broken-limit-requires
-broken-limit-requires c κs = search rules
+broken_limit-requires : tie.Need-broken_limit-requires
+broken_limit-requires c κs = search rules
 
 returns : tie.Need-returns
 returns c =
@@ -32,19 +32,19 @@ returns c =
     λ l k some inside h e o.
     let last = overlap case l (terms case l) in
     let middle = commitment case l last in
-    c.broken-limit.ensures l k (ramp case l middle) h
-    (ramps.broken-ramp.ensures l k middle h
-    (committed.broken-commitment.ensures case l k last h
-    (overlaps.broken-overlap.ensures l k (terms case l) h (termed.broken-terms.ensures l k h e o))))
+    c.broken_limit.ensures l k (ramp case l middle) h
+    (ramps.broken_ramp-ramp.ensures l k middle h
+    (committed.broken_commitment-commitment.ensures case l k last h
+    (overlaps.broken_overlap-overlap.ensures l k (terms case l) h (termed.broken_terms-terms.ensures l k h e o))))
     ∙ ap (broken_of k) (sym (day_rules_are case l)) ∙ sym (broken_at_inside case l k some inside)
 
-pub broken-at-spec : {M : Type 1} → statement M
-broken-at-spec =
+pub broken_at_spec : {M : Type 1} → statement M
+broken_at_spec =
     tie.close
     (tie.spec
-    broken-terms-requires
-    broken-overlap-requires
-    broken-commitment-requires
-    broken-ramp-requires
-    broken-limit-requires
+    broken_terms-terms-requires
+    broken_overlap-overlap-requires
+    broken_commitment-commitment-requires
+    broken_ramp-ramp-requires
+    broken_limit-requires
     returns)

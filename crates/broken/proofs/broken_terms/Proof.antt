@@ -8,42 +8,42 @@ use Rattle.broken.proofs.NumbersLaws.{rule21_of, rule22_of, rule23_of}
 use Rattle.broken.proofs.broken_terms.Statement.{statement}
 use Rattle.broken.proofs.broken_terms.Tie as tie
 
-kept-order-requires : tie.Need-kept-order-requires
-kept-order-requires c κs = search rules
+kept_order-requires : tie.Need-kept_order-requires
+kept_order-requires c κs = search rules
+
+first-ordered-requires : tie.Need-first-ordered-requires
+first-ordered-requires c κs = search rules
+
+kept_time-requires : tie.Need-kept_time-requires
+kept_time-requires c κs = search rules
+
+first-down-requires : tie.Need-first-down-requires
+first-down-requires c κs = search rules
+
+kept_time-requires-2 : tie.Need-kept_time-requires-2
+kept_time-requires-2 c κs = search rules
 
 first-requires : tie.Need-first-requires
 first-requires c κs = search rules
-
-kept-time-requires : tie.Need-kept-time-requires
-kept-time-requires c κs = search rules
-
-first-requires-2 : tie.Need-first-requires-2
-first-requires-2 c κs = search rules
-
-kept-time-requires-2 : tie.Need-kept-time-requires-2
-kept-time-requires-2 c κs = search rules
-
-first-requires-3 : tie.Need-first-requires-3
-first-requires-3 c κs = search rules
 
 returns : tie.Need-returns
 returns c =
     let down = c.before.before in
     let ordered = down.before.before in
     λ l k h e o. tried
-    (next c.first3.ensures (c.before.kept-time2.ensures ∙ rule21_of h e)
-    (next down.first2.ensures (down.before.kept-time.ensures ∙ rule22_of h e)
-    (next ordered.first.ensures (ordered.before.kept-order.ensures ∙ rule23_of h o)
+    (next c.first.ensures (c.before.kept_time-2.ensures ∙ rule21_of h e)
+    (next down.first-down.ensures (down.before.kept_time.ensures ∙ rule22_of h e)
+    (next ordered.first-ordered.ensures (ordered.before.kept_order.ensures ∙ rule23_of h o)
     (rest (sym (broken_of_none k))))))
 
-pub broken-terms-spec : {M : Type 1} → statement M
-broken-terms-spec =
+pub broken_terms_spec : {M : Type 1} → statement M
+broken_terms_spec =
     tie.close
     (tie.spec
-    kept-order-requires
+    kept_order-requires
+    first-ordered-requires
+    kept_time-requires
+    first-down-requires
+    kept_time-requires-2
     first-requires
-    kept-time-requires
-    first-requires-2
-    kept-time-requires-2
-    first-requires-3
     returns)

@@ -6,20 +6,20 @@ use lib.ListN.{get_or-eq_default}
 use Rattle.cells.proofs.cost_at.Statement.{statement}
 use Rattle.cells.proofs.cost_at.Tie as tie
 
-value-at-requires : tie.Need-value-at-requires
-value-at-requires c κs =
+value_at-requires : tie.Need-value_at-requires
+value_at-requires c κs =
     let s = c.before in
-    ⊎_elim (λ e. absurd (c.if1.false e)) (λ h. omega (arith, s.requires.1)) s.requires.0.long
+    ⊎_elim (λ e. absurd (c.if-costs-eq0.false e)) (λ h. omega (arith, s.requires.1)) s.requires.0.long
+
+returns-then-costs-eq0 : tie.Need-returns-then-costs-eq0
+returns-then-costs-eq0 c =
+    let s = c.before in
+    (sym (get_or-eq_default s.args.costs.now _ (omega (arith, c.if-costs-eq0.true))), omega arith)
 
 returns : tie.Need-returns
 returns c =
-    let s = c.before in
-    (sym (get_or-eq_default s.args.costs.now _ (omega (arith, c.if1.true))), omega arith)
-
-returns-2 : tie.Need-returns-2
-returns-2 c =
     let s = c.before.before in
-    (c.value-at.ensures, rw c.value-at.ensures (s.requires.0.cost_le s.args.n))
+    (c.value_at.ensures, rw c.value_at.ensures (s.requires.0.cost_le s.args.n))
 
-pub cost-at-spec : {M : Type 1} → statement M
-cost-at-spec = tie.close (tie.spec returns value-at-requires returns-2)
+pub cost_at_spec : {M : Type 1} → statement M
+cost_at_spec = tie.close (tie.spec returns-then-costs-eq0 value_at-requires returns)

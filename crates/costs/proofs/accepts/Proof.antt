@@ -8,5 +8,5 @@ returns : tie.Need-returns
 unfolding accepted
 returns c = cc
 
-pub accepts-spec : {M : Type 1} → statement M
-accepts-spec = tie.close (tie.spec (λ c κs. search rules) (λ c κs. search rules) (λ c κs. search rules) returns)
+pub accepts_spec : {M : Type 1} → statement M
+accepts_spec = tie.close (tie.spec (λ c κs. search rules) (λ c κs. search rules) (λ c κs. search rules) returns)

@@ -9,5 +9,5 @@ returns : tie.Need-returns
 unfolding allowed of_bits of_int
 returns c = refl
 
-pub coefficient-spec : {M : Type 1} → statement M
-coefficient-spec = tie.close (tie.spec returns)
+pub coefficient_spec : {M : Type 1} → statement M
+coefficient_spec = tie.close (tie.spec returns)

@@ -9,9 +9,9 @@ use Rattle.curve.specs.Cost.{cost_of}
 use Rattle.costs.proofs.cost_at.Statement.{statement}
 use Rattle.costs.proofs.cost_at.Tie as tie
 
-int-to-float-x : tie.Need-int-to-float-x
+int_to_float-x : tie.Need-int_to_float-x
 unfolding in_float
-int-to-float-x c =
+int_to_float-x c =
     let n = c.before.args.n in
     let h : n ≤ 2 ^ value_digits = omega arith in
     le→leb n (2 ^ value_digits) h
@@ -20,5 +20,5 @@ returns : tie.Need-returns
 unfolding cost_of
 returns c = refl
 
-pub cost-at-spec : {M : Type 1} → statement M
-cost-at-spec = tie.close (tie.spec int-to-float-x returns)
+pub cost_at_spec : {M : Type 1} → statement M
+cost_at_spec = tie.close (tie.spec int_to_float-x returns)

@@ -25,39 +25,39 @@ module _ (s : tie.Start) where
   held = curved_fits s.args.curve.a s.args.curve.b s.args.curve.c s.args.n
 
 -- what `round_bits` gives is the entry
-entry_is : (c : tie.After-round-bits)
-    → c.round-bits.result ≡ entry_of (k c.before.before) c.before.before.args.n
+entry_is : (c : tie.After-round_bits-whole)
+    → c.round_bits-whole.result ≡ entry_of (k c.before.before) c.before.before.args.n
 unfolding entry_of
-entry_is c = c.round-bits.ensures ∙ ap (λ (x : Float). whole_of (to_bits binary64 x)) c.before.cost-at.ensures
+entry_is c = c.round_bits-whole.ensures ∙ ap (λ (x : Float). whole_of (to_bits binary64 x)) c.before.cost_at-cost.ensures
 
-small : (c : tie.After-round-bits) → c.round-bits.result < 2 ^ sign_place
+small : (c : tie.After-round_bits-whole) → c.round_bits-whole.result < 2 ^ sign_place
 small c =
     let s = c.before.before in
     let l : most_cost < 2 ^ sign_place = lit< tt in
     lt_of_le_of_lt (subst (λ (x : ℕ). x ≤ most_cost) (sym (entry_is c))
     (entry_most (k s) s.args.n (held s) (good (k s) s.requires.0) s.requires.1)) l
 
-cost-at-requires : tie.Need-cost-at-requires
-cost-at-requires c κs = search rules
+cost_at-cost-requires : tie.Need-cost_at-cost-requires
+cost_at-cost-requires c κs = search rules
 
-float-to-bits-bits : tie.Need-float-to-bits-bits
-float-to-bits-bits c =
+float_to_bits-bits : tie.Need-float_to_bits-bits
+float_to_bits-bits c =
     let s = c.before in
-    subst (λ (x : Float). T (not (is_nan x))) (sym c.cost-at.ensures)
+    subst (λ (x : Float). T (not (is_nan x))) (sym c.cost_at-cost.ensures)
     (cost_number (k s) s.args.n (held s) (good (k s) s.requires.0) s.requires.1)
 
-round-bits-requires : tie.Need-round-bits-requires
-round-bits-requires c κs =
+round_bits-whole-requires : tie.Need-round_bits-whole-requires
+round_bits-whole-requires c κs =
     let s = c.before in
-    subst (λ (x : Float). field_of (to_bits binary64 x) ≤ scale) (sym c.cost-at.ensures)
+    subst (λ (x : Float). field_of (to_bits binary64 x) ≤ scale) (sym c.cost_at-cost.ensures)
     (cost_field (k s) s.args.n (held s) (good (k s) s.requires.0) s.requires.1)
 
-cast-t6 : tie.Need-overflow-cast-t6
-cast-t6 c = record { sfits = small c }
+overflow_cast-result : tie.Need-overflow_cast-result
+overflow_cast-result c = record { sfits = small c }
 
 returns : tie.Need-returns
-returns c = to_z_pos w64 c.round-bits.result (small c) ∙ ap pos (entry_is c)
+returns c = to_z_pos w64 c.round_bits-whole.result (small c) ∙ ap pos (entry_is c)
 
-pub entry-at-spec : {M : Type 1} → statement M
-entry-at-spec =
-    tie.close (tie.spec cost-at-requires float-to-bits-bits round-bits-requires cast-t6 returns)
+pub entry_at_spec : {M : Type 1} → statement M
+entry_at_spec =
+    tie.close (tie.spec cost_at-cost-requires float_to_bits-bits round_bits-whole-requires overflow_cast-result returns)

@@ -25,58 +25,58 @@ module _ (c : tie.After-accepts) where
   lent = c.before.before.args.table.now
 
   tested : accepted (record_of k) ≡ c.accepts.result
-  tested = sym (c.accepts.ensures ∙ ap accepted c.before.record_of.ensures)
+  tested = sym (c.accepts.ensures ∙ ap accepted c.before.record_of-curve.ensures)
 
-returns : tie.Need-returns
-returns c =
+returns-then-not-accepts : tie.Need-returns-then-not-accepts
+returns-then-not-accepts c =
     let s = c.before in
-    let a = answers_16 (k s) (lent s) (tested s ∙ not-true s.accepts.result c.if1.true) in
+    let a = answers_16 (k s) (lent s) (tested s ∙ not-true s.accepts.result c.if-not-accepts.true-raw) in
     (sym a.0, sym a.1)
 
-returns-2 : tie.Need-returns-2
-returns-2 c =
+returns-then-table-lt-COSTS : tie.Need-returns-then-table-lt-COSTS
+returns-then-table-lt-COSTS c =
     let s = c.before.before in
-    let a = answers_10 (k s) (lent s) (tested s ∙ not-false s.accepts.result c.before.if1.false)
-    (omega (arith, c.if2.true)) in
+    let a = answers_10 (k s) (lent s) (tested s ∙ not-false s.accepts.result c.before.if-not-accepts.false-raw)
+    (omega (arith, c.if-table-lt-COSTS.true)) in
     (sym a.0, sym a.1)
 
 -- past both tests
-module _ (c : tie.Else2) where
+module _ (c : tie.Else-table-lt-COSTS) where
   abbrev s : tie.After-accepts
   s = c.before.before
 
   passed : accepted (record_of (k s)) ≡ true
-  passed = tested s ∙ not-false s.accepts.result c.before.if1.false
+  passed = tested s ∙ not-false s.accepts.result c.before.if-not-accepts.false-raw
 
   usable : Usable (k s)
   usable = record {
-    floats = kind_held (k s) s.before.before.good.0;
+    floats = kind_held (k s) s.before.before.well_formed.0;
     passes = true_to_t (accepted (record_of (k s))) passed;
   }
 
 fill-requires : tie.Need-fill-requires
 fill-requires c κs =
     let d = c.before in
-    let r = (s d).before.record_of.ensures in
-    (true_to_t _ (ap accepted r ∙ passed d), omega (arith, d.if2.false))
+    let r = (s d).before.record_of-curve.ensures in
+    (true_to_t _ (ap accepted r ∙ passed d), omega (arith, d.if-table-lt-COSTS.false))
 
-returns-3 : tie.Need-returns-3
-returns-3 c =
+returns : tie.Need-returns
+returns c =
     let d = c.before.before.before in
     let l = lent (s d) in
-    let a = answers_done (k (s d)) l (passed d) (omega (arith, d.if2.false)) in
-    let table : table_of (curved_of (s d).before.record_of.result) ≡ table_of (k (s d)) =
-    ap (λ (r : Curve). table_of (curved_of r)) (s d).before.record_of.ensures ∙ record_table (usable d) in
+    let a = answers_done (k (s d)) l (passed d) (omega (arith, d.if-table-lt-COSTS.false)) in
+    let table : table_of (curved_of (s d).before.record_of-curve.result) ≡ table_of (k (s d)) =
+    ap (λ (r : Curve). table_of (curved_of r)) (s d).before.record_of-curve.ensures ∙ record_table (usable d) in
     (sym a.0, c.before.fill.ensures ∙ ap (λ (t : List ℤ). t ++ drop costs_length l) table ∙ sym a.1)
 
-pub fill-table-spec : {M : Type 1} → statement M
-fill-table-spec =
+pub fill_table_spec : {M : Type 1} → statement M
+fill_table_spec =
     tie.close
     (tie.spec
     (λ c κs. search rules)
     (λ c κs. search rules)
-    returns
-    returns-2
+    returns-then-not-accepts
+    returns-then-table-lt-COSTS
     fill-requires
     (λ c. search rules)
-    returns-3)
+    returns)

@@ -29,50 +29,50 @@ other (suc (suc zero)) r a b c = absurd (c refl)
 other (suc (suc (suc n))) r a b c = refl
 
 -- the two tests of a flat kind
-both : (c : tie.After-zero2) → eq c.before.before.before.args.curve.b (whole 0)
-    && eq c.before.before.before.args.curve.c (whole 0) ≡ c.before.zero.result && c.zero2.result
-both c = ap₂ (λ (p q : Bool). p && q) (sym c.before.zero.ensures) (sym c.zero2.ensures)
+both : (c : tie.After-zero-in-0) → eq c.before.before.before.args.curve.b (whole 0)
+    && eq c.before.before.before.args.curve.c (whole 0) ≡ c.before.zero.result && c.zero-in-0.result
+both c = ap₂ (λ (p q : Bool). p && q) (sym c.before.zero.ensures) (sym c.zero-in-0.ensures)
 
-returns : tie.Need-returns
-returns c =
+returns-then-zero : tie.Need-returns-then-zero
+returns-then-zero c =
     let m = c.before.before.before in
-    flat m.before.args.number m.before.args.curve true m.match.keys1 (both c.before ∙ c.if1.true)
+    flat m.before.args.number m.before.args.curve true m.in-0.is (both c.before ∙ c.if-zero.true)
 
-returns-2 : tie.Need-returns-2
-returns-2 c =
+returns-else-zero : tie.Need-returns-else-zero
+returns-else-zero c =
     let m = c.before.before.before in
-    flat m.before.args.number m.before.args.curve false m.match.keys1 (both c.before ∙ c.if1.false)
+    flat m.before.args.number m.before.args.curve false m.in-0.is (both c.before ∙ c.if-zero.false)
 
-returns-3 : tie.Need-returns-3
-returns-3 c =
+returns-then-zero-2 : tie.Need-returns-then-zero-2
+returns-then-zero-2 c =
     let m = c.before.before in
-    straight m.before.args.number m.before.args.curve true m.match.keys2
-    (sym c.before.zero3.ensures ∙ c.if2.true)
+    straight m.before.args.number m.before.args.curve true m.in-1.is
+    (sym c.before.zero-in-1.ensures ∙ c.if-zero-2.true)
 
-returns-4 : tie.Need-returns-4
-returns-4 c =
+returns-else-zero-2 : tie.Need-returns-else-zero-2
+returns-else-zero-2 c =
     let m = c.before.before in
-    straight m.before.args.number m.before.args.curve false m.match.keys2
-    (sym c.before.zero3.ensures ∙ c.if2.false)
+    straight m.before.args.number m.before.args.curve false m.in-1.is
+    (sym c.before.zero-in-1.ensures ∙ c.if-zero-2.false)
 
-returns-5 : tie.Need-returns-5
-returns-5 c = sym (ap (λ (x : ℕ). supplied_of x c.before.args.curve) c.match.keys3)
+returns-in-2 : tie.Need-returns-in-2
+returns-in-2 c = sym (ap (λ (x : ℕ). supplied_of x c.before.args.curve) c.in-2.is)
 
-returns-6 : tie.Need-returns-6
-returns-6 c =
-    other c.before.args.number c.before.args.curve c.match.rest.0.0.1 c.match.rest.0.1
-    c.match.rest.1
+returns-in_default : tie.Need-returns-in_default
+returns-in_default c =
+    other c.before.args.number c.before.args.curve c.in_default.in_default-own.rest.0.0.1
+    c.in_default.in_default-own.rest.0.1 c.in_default.in_default-own.rest.1
 
-pub kind-of-spec : {M : Type 1} → statement M
-kind-of-spec =
+pub kind_of_spec : {M : Type 1} → statement M
+kind_of_spec =
     tie.close
     (tie.spec
     (λ c κs. search rules)
     (λ c κs. search rules)
     (λ c κs. search rules)
-    returns
-    returns-2
-    returns-3
-    returns-4
-    returns-5
-    returns-6)
+    returns-then-zero
+    returns-else-zero
+    returns-then-zero-2
+    returns-else-zero-2
+    returns-in-2
+    returns-in_default)

@@ -22,11 +22,11 @@ module _ (c : tie.Start) where
   kept : x / 2 ^ n * 2 ^ n % 2 ^ bits w64 ≡ x / 2 ^ n * 2 ^ n
   kept = mod-eq_of_lt (lt_of_le_of_lt (div-mul-le_self x (2 ^ n)) (omega arith))
 
-sub-result : tie.Need-overflow-sub-result
-sub-result c = omega (arith, kept c, split (x c) (n c))
+overflow_sub-result : tie.Need-overflow_sub-result
+overflow_sub-result c = omega (arith, kept c, split (x c) (n c))
 
 returns : tie.Need-returns
 returns c = omega (arith, kept c, split (x c) (n c))
 
-pub low-spec : {M : Type 1} → statement M
-low-spec = tie.close (tie.spec (λ c. search rules) (λ c. search rules) sub-result returns)
+pub low_spec : {M : Type 1} → statement M
+low_spec = tie.close (tie.spec (λ c. search rules) (λ c. search rules) overflow_sub-result returns)

@@ -4,18 +4,18 @@ use lib.Ieee.{of_bits, of_int}
 use Rattle.costs.proofs.record_of.Statement.{statement}
 use Rattle.costs.proofs.record_of.Tie as tie
 
-returns : tie.Need-returns
+returns-in-Flat : tie.Need-returns-in-Flat
 unfolding of_bits of_int
-returns c = rw c.before.kind.given.1
+returns-in-Flat c = rw c.in-Flat.is
 
-returns-2 : tie.Need-returns-2
+returns-in-Straight : tie.Need-returns-in-Straight
 unfolding of_bits of_int
-returns-2 c = rw c.before.kind2.given.1
+returns-in-Straight c = rw c.in-Straight.is
 
-returns-3 : tie.Need-returns-3
-returns-3 c = rw c.before.kind3.given.1
+returns-in-Curved : tie.Need-returns-in-Curved
+returns-in-Curved c = rw c.in-Curved.is
 
-pub record-of-spec : {M : Type 1} → statement M
-record-of-spec =
+pub record_of_spec : {M : Type 1} → statement M
+record_of_spec =
     tie.close
-    (tie.spec (λ c. search rules) (λ c. search rules) (λ c. search rules) returns returns-2 returns-3)
+    (tie.spec (λ c. search rules) (λ c. search rules) (λ c. search rules) returns-in-Flat returns-in-Straight returns-in-Curved)

@@ -13,39 +13,39 @@ use Rattle.costs.proofs.round_bits.Statement.{statement}
 use Rattle.costs.proofs.round_bits.Tie as tie
 
 -- the field that the code reads
-field_is : (c : tie.After-low) → c.low.result / 2 ^ fraction_digits ≡ field_of c.before.args.bits
-field_is c = ap (λ (x : ℕ). x / 2 ^ fraction_digits) c.low.ensures
+field_is : (c : tie.After-low-field) → c.low-field.result / 2 ^ fraction_digits ≡ field_of c.before.args.bits
+field_is c = ap (λ (x : ℕ). x / 2 ^ fraction_digits) c.low-field.ensures
 
-returns : tie.Need-returns
-returns c = sym (whole_small c.before.before.args.bits (omega (arith, field_is c.before, c.if1.true)))
+returns-then-field : tie.Need-returns-then-field
+returns-then-field c = sym (whole_small c.before.before.args.bits (omega (arith, field_is c.before, c.if-field.true)))
 
 nearest-requires : tie.Need-nearest-requires
 nearest-requires c κs =
     let b = c.before.before.before.args.bits in (
-      omega (arith, c.low2.ensures, mod-lt b (pow_pos fraction_digits)),
-      omega (arith, field_is c.before.before, c.before.if1.false),
+      omega (arith, c.low.ensures, mod-lt b (pow_pos fraction_digits)),
+      omega (arith, field_is c.before.before, c.before.if-field.false),
     )
 
-returns-2 : tie.Need-returns-2
-returns-2 c =
+returns : tie.Need-returns
+returns c =
     let s = c.before.before.before in
     let b = s.before.args.bits in
-    let digits : 2 ^ fraction_digits + c.before.low2.result ≡ 2 ^ fraction_digits + fraction_of b =
-    omega (arith, c.before.low2.ensures) in
+    let digits : 2 ^ fraction_digits + c.before.low.result ≡ 2 ^ fraction_digits + fraction_of b =
+    omega (arith, c.before.low.ensures) in
     c.nearest.ensures
     ∙ ap₂ (λ (x y : ℕ). closest x (2 ^ (scale + 1 - y))) digits (field_is s)
-    ∙ sym (whole_divided b (omega (arith, field_is s, c.before.before.if1.false)) s.before.requires)
+    ∙ sym (whole_divided b (omega (arith, field_is s, c.before.before.if-field.false)) s.before.requires)
 
-pub round-bits-spec : {M : Type 1} → statement M
-round-bits-spec =
+pub round_bits_spec : {M : Type 1} → statement M
+round_bits_spec =
     tie.close
     (tie.spec
     (λ c κs. search rules)
     (λ c. search rules)
-    returns
+    returns-then-field
     (λ c κs. search rules)
     (λ c. search rules)
     (λ c. search rules)
     (λ c. search rules)
     nearest-requires
-    returns-2)
+    returns)

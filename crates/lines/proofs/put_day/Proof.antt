@@ -17,27 +17,27 @@ hours c = hour_lines c.args.case c.args.outputs.now c.args.case.hours
 room : (c : tie.Start) → 0 + length (profit_line c.args.profit.0 ++ hours c) ≤ length c.args.out.now
 room c = omega (arith, c.requires.1)
 
-put-profit-requires : tie.Need-put-profit-requires
-put-profit-requires c κs =
+put_profit-at-requires : tie.Need-put_profit-at-requires
+put_profit-at-requires c κs =
     let s = c.before.before.before in
     let h = room_first (profit_line s.args.profit.0) (hours s) 0 (length s.args.out.now) (room s) in
     omega arith
 
-put-hours-requires : tie.Need-put-hours-requires
-put-hours-requires c κs =
+put_hours-requires : tie.Need-put_hours-requires
+put_hours-requires c κs =
     let call = c.before.before.before in
     let s = call.before.before.before.before in
-    (s.requires.0, room_then (profit_line s.args.profit.0) (hours s) call.put-profit.ensures (room s))
+    (s.requires.0, room_then (profit_line s.args.profit.0) (hours s) call.put_profit-at.ensures (room s))
 
-same_length : tie.Need-same-length
-same_length c = search rules
+shape_of-out : tie.Need-shape_of-out
+shape_of-out c = search rules
 
 returns : tie.Need-returns
 returns c =
     let call = c.before.before.before.before.before.before in
     let s = call.before.before.before.before in
-    puts_then (profit_line s.args.profit.0) (hours s) call.put-profit.ensures
-    c.before.before.put-hours.ensures
+    puts_then (profit_line s.args.profit.0) (hours s) call.put_profit-at.ensures
+    c.before.before.put_hours.ensures
 
-pub put-day-spec : {M : Type 1} → statement M
-put-day-spec = tie.close (tie.spec put-profit-requires put-hours-requires same_length returns)
+pub put_day_spec : {M : Type 1} → statement M
+put_day_spec = tie.close (tie.spec put_profit-at-requires put_hours-requires shape_of-out returns)

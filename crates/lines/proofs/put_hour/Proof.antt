@@ -30,70 +30,61 @@ module _ (c : tie.Start) where
       omega (arith, c.requires, ap length parts)
 
 -- the call, and the end of the first field, seen from the ends of the fields
-abbrev start : tie.After-put-field → tie.Start
-start c = c.before.before.before.before.before
+abbrev start : tie.After-put_field-first → tie.Start
+start c = c.before.before.before.before.before.before
 
-abbrev first : tie.After-put-field2 → tie.After-put-field
-first c = c.before.before.before.before.before.before
+abbrev first : tie.After-put_field-second → tie.After-put_field-first
+first c = c.before.before.before.before.before.before.before
 
-cast-put-field : tie.Need-overflow-cast-put-field
-cast-put-field c = search rules
+overflow_cast-hour : tie.Need-overflow_cast-hour
+overflow_cast-hour c = search rules
 
-slice-aggregate-put-field : tie.Need-slice-aggregate-put-field
-slice-aggregate-put-field c = search rules
-
-put-field-requires : tie.Need-put-field-requires
-put-field-requires c κs =
+put_field-first-requires : tie.Need-put_field-first-requires
+put_field-first-requires c κs =
     let s = c.before.before.before.before in
-    room_first (hour s) (output s ++ halves s) s.args.at (length s.args.out.now) (room s)
+    room_first (hour s.before) (output s.before ++ halves s.before) s.args.at (length s.args.out.now) (room s.before)
 
-cast-put-field-2 : tie.Need-overflow-cast-put-field-2
-cast-put-field-2 c = search rules
+overflow_cast-output : tie.Need-overflow_cast-output
+overflow_cast-output c = search rules
 
-slice-aggregate-put-field-2 : tie.Need-slice-aggregate-put-field-2
-slice-aggregate-put-field-2 c = search rules
-
-put-field-requires-2 : tie.Need-put-field-requires-2
-put-field-requires-2 c κs =
+put_field-second-requires : tie.Need-put_field-second-requires
+put_field-second-requires c κs =
     let one = c.before.before.before.before.before in
-    let s = start one in
-    room_first (output s) (halves s) one.put-field.result (length one.put-field.new.0)
-    (room_then (hour s) (output s ++ halves s) one.put-field.ensures (room s))
+    let s = start one.before in
+    room_first (output s) (halves s) one.put_field-first.result (length one.put_field-first.new.out)
+    (room_then (hour s) (output s ++ halves s) one.put_field-first.ensures (room s))
 
-cast-put-field-3 : tie.Need-overflow-cast-put-field-3
-cast-put-field-3 c = search rules
+overflow_cast-output-2 : tie.Need-overflow_cast-output-2
+overflow_cast-output-2 c = search rules
 
-cast-put-field-4 : tie.Need-overflow-cast-put-field-4
-cast-put-field-4 c = search rules
+overflow_cast-before : tie.Need-overflow_cast-before
+overflow_cast-before c = search rules
 
-add-put-field : tie.Need-overflow-add-put-field
-add-put-field c = search rules
+overflow_add-output : tie.Need-overflow_add-output
+overflow_add-output c = search rules
 
-slice-aggregate-put-field-3 : tie.Need-slice-aggregate-put-field-3
-slice-aggregate-put-field-3 c = search rules
-
-put-field-requires-3 : tie.Need-put-field-requires-3
-put-field-requires-3 c κs =
+put_field-requires : tie.Need-put_field-requires
+put_field-requires c κs =
     let two = c.before.before.before.before.before.before in
-    let one = first two in
+    let one = first two.before in
     let s = start one in
-    room_then (output s) (halves s) two.put-field2.ensures
-    (room_then (hour s) (output s ++ halves s) one.put-field.ensures (room s))
+    room_then (output s) (halves s) two.put_field-second.ensures
+    (room_then (hour s) (output s ++ halves s) one.put_field-first.ensures (room s))
 
-same_length : tie.Need-same-length
-same_length c = search rules
+shape_of-out : tie.Need-shape_of-out
+shape_of-out c = search rules
 
 returns : tie.Need-returns
 returns c =
     let two = c.before.before.before.before.before.before.before.before.before in
-    let one = first two in
+    let one = first two.before in
     let s = start one in
     rw (hour_line_is s.args.hour.0 s.args.output.0 (s.args.output.0 + s.args.before.0))
-    (puts_then (hour s) (output s ++ halves s) one.put-field.ensures
-    (puts_then (output s) (halves s) two.put-field2.ensures c.before.before.put-field3.ensures))
+    (puts_then (hour s) (output s ++ halves s) one.put_field-first.ensures
+    (puts_then (output s) (halves s) two.put_field-second.ensures c.before.before.put_field.ensures))
 
-pub put-hour-spec : {M : Type 1} → statement M
-put-hour-spec =
-    tie.close (tie.spec cast-put-field slice-aggregate-put-field put-field-requires cast-put-field-2
-    slice-aggregate-put-field-2 put-field-requires-2 cast-put-field-3 cast-put-field-4 add-put-field
-    slice-aggregate-put-field-3 put-field-requires-3 same_length returns)
+pub put_hour_spec : {M : Type 1} → statement M
+put_hour_spec =
+    tie.close (tie.spec overflow_cast-hour put_field-first-requires overflow_cast-output
+    put_field-second-requires overflow_cast-output-2 overflow_cast-before overflow_add-output
+    put_field-requires shape_of-out returns)

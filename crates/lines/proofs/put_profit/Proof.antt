@@ -17,44 +17,38 @@ room : (c : tie.Start) (m : ℕ) → m ≡ nat_abs c.args.v.0
     → 0 + length (profit_word ++ (sign c.args.v.0 ++ (decimal m ++ (10 ∷ [])))) ≤ length c.args.out.now
 room c m e = omega (arith, c.requires, ap length (profit_line_is c.args.v.0 m e))
 
-slice-aggregate-put : tie.Need-slice-aggregate-put
-slice-aggregate-put c = search rules
-
-put-requires : tie.Need-put-requires
-put-requires c κs =
+put-word-requires : tie.Need-put-word-requires
+put-word-requires c κs =
     let s = c.before.before.before in
     let v = s.args.v.0 in
     room_first profit_word (sign v ++ (decimal (nat_abs v) ++ (10 ∷ []))) 0 (length s.args.out.now)
-    (room s (nat_abs v) refl)
+    (room s.before (nat_abs v) refl)
 
-put-sign-requires : tie.Need-put-sign-requires
-put-sign-requires c κs =
+put_sign-at-requires : tie.Need-put_sign-at-requires
+put_sign-at-requires c κs =
     let word = c.before.before.before in
     let s = word.before.before.before.before in
     let v = s.args.v.0 in
     let rest = decimal (nat_abs v) ++ (10 ∷ []) in
-    room_first (sign v) rest word.put.result (length word.put.new.0)
-    (room_then profit_word (sign v ++ rest) word.put.ensures (room s (nat_abs v) refl))
+    room_first (sign v) rest word.put-word.result (length word.put-word.new.out)
+    (room_then profit_word (sign v ++ rest) word.put-word.ensures (room s.before (nat_abs v) refl))
 
 magnitude-requires : tie.Need-magnitude-requires
 magnitude-requires c κs = search rules
 
-slice-aggregate-put-field : tie.Need-slice-aggregate-put-field
-slice-aggregate-put-field c = search rules
-
-put-field-requires : tie.Need-put-field-requires
-put-field-requires c κs =
+put_field-requires : tie.Need-put_field-requires
+put_field-requires c κs =
     let signed = c.before.before.before.before.before in
     let word = signed.before.before.before.before in
     let s = word.before.before.before.before in
     let m = c.before.magnitude in
     let v = s.args.v.0 in
     let rest = decimal m.result ++ (10 ∷ []) in
-    room_then (sign v) rest signed.put-sign.ensures
-    (room_then profit_word (sign v ++ rest) word.put.ensures (room s m.result m.ensures))
+    room_then (sign v) rest signed.put_sign-at.ensures
+    (room_then profit_word (sign v ++ rest) word.put-word.ensures (room s.before.before m.result m.ensures))
 
-same_length : tie.Need-same-length
-same_length c = search rules
+shape_of-out : tie.Need-shape_of-out
+shape_of-out c = search rules
 
 returns : tie.Need-returns
 returns c =
@@ -64,18 +58,16 @@ returns c =
     let v = word.before.before.before.before.args.v.0 in
     let rest = decimal m.result ++ (10 ∷ []) in
     rw (profit_line_is v m.result m.ensures)
-    (puts_then profit_word (sign v ++ rest) word.put.ensures
-    (puts_then (sign v) rest signed.put-sign.ensures c.before.before.put-field.ensures))
+    (puts_then profit_word (sign v ++ rest) word.put-word.ensures
+    (puts_then (sign v) rest signed.put_sign-at.ensures c.before.before.put_field.ensures))
 
-pub put-profit-spec : {M : Type 1} → statement M
-put-profit-spec =
+pub put_profit_spec : {M : Type 1} → statement M
+put_profit_spec =
     tie.close
     (tie.spec
-    slice-aggregate-put
-    put-requires
-    put-sign-requires
+    put-word-requires
+    put_sign-at-requires
     magnitude-requires
-    slice-aggregate-put-field
-    put-field-requires
-    same_length
+    put_field-requires
+    shape_of-out
     returns)

@@ -16,41 +16,33 @@ room : (c : tie.Start)
     → 0 + length (refused_word ++ (decimal c.args.number ++ (10 ∷ []))) ≤ length c.args.out.now
 room c = omega (arith, c.requires, ap length (refused_line_is c.args.number))
 
-slice-aggregate-put : tie.Need-slice-aggregate-put
-slice-aggregate-put c = search rules
-
-put-requires : tie.Need-put-requires
-put-requires c κs =
+put-at-requires : tie.Need-put-at-requires
+put-at-requires c κs =
     let s = c.before.before.before in
-    room_first refused_word (decimal s.args.number ++ (10 ∷ [])) 0 (length s.args.out.now) (room s)
+    room_first refused_word (decimal s.args.number ++ (10 ∷ [])) 0 (length s.args.out.now) (room s.before)
 
-slice-aggregate-put-field : tie.Need-slice-aggregate-put-field
-slice-aggregate-put-field c = search rules
-
-put-field-requires : tie.Need-put-field-requires
-put-field-requires c κs =
+put_field-requires : tie.Need-put_field-requires
+put_field-requires c κs =
     let first = c.before.before.before.before in
     let s = first.before.before.before.before in
-    room_then refused_word (decimal s.args.number ++ (10 ∷ [])) first.put.ensures (room s)
+    room_then refused_word (decimal s.args.number ++ (10 ∷ [])) first.put-at.ensures (room s.before.before)
 
-same_length : tie.Need-same-length
-same_length c = search rules
+shape_of-out : tie.Need-shape_of-out
+shape_of-out c = search rules
 
 returns : tie.Need-returns
 returns c =
     let first = c.before.before.before.before.before.before.before in
     let s = first.before.before.before.before in
     rw (refused_line_is s.args.number)
-    (puts_then refused_word (decimal s.args.number ++ (10 ∷ [])) first.put.ensures
-    c.before.before.put-field.ensures)
+    (puts_then refused_word (decimal s.args.number ++ (10 ∷ [])) first.put-at.ensures
+    c.before.before.put_field.ensures)
 
-pub put-refused-spec : {M : Type 1} → statement M
-put-refused-spec =
+pub put_refused_spec : {M : Type 1} → statement M
+put_refused_spec =
     tie.close
     (tie.spec
-    slice-aggregate-put
-    put-requires
-    slice-aggregate-put-field
-    put-field-requires
-    same_length
+    put-at-requires
+    put_field-requires
+    shape_of-out
     returns)

@@ -12,31 +12,31 @@ use Rattle.profit.proofs.charge_of.Statement.{statement}
 use Rattle.profit.proofs.charge_of.Tie as tie
 
 -- each charge, and how large it is
-module _ (c : tie.After-charged3) where
+module _ (c : tie.After-charged-stop) where
   abbrev begun : tie.Start
-  begun = c.before.before.before
+  begun = c.before.before.before.before.before.before
 
   abbrev online : ℤ
-  online = c.before.before.charged.result.0
+  online = c.before.before.charged-online.result.0
 
   abbrev start : ℤ
-  start = c.before.charged2.result.0
+  start = c.before.charged-start.result.0
 
   abbrev stop : ℤ
-  stop = c.charged3.result.0
+  stop = c.charged-stop.result.0
 
   limits : Limits begun.args.case
-  limits = limits_of_refusal_of begun.args.case begun.pre.0
+  limits = limits_of_refusal_of begun.args.case begun.requires.0
 
   online_le : nat_abs online ≤ most_fee
   online_le =
-      charged_le begun.args.m.online limits.fixed_in begun.pre.1.0 c.before.before.charged.ensures
+      charged_le begun.args.m.online limits.fixed_in begun.requires.1.0 c.before.before.charged-online.ensures
 
   start-le : nat_abs start ≤ most_fee
-  start-le = charged_le begun.args.m.start limits.startcost_in begun.pre.1.1 c.before.charged2.ensures
+  start-le = charged_le begun.args.m.start limits.startcost_in begun.requires.1.1 c.before.charged-start.ensures
 
   stop_le : nat_abs stop ≤ most_fee
-  stop_le = charged_le begun.args.m.stop limits.stopcost_in begun.pre.1.2 c.charged3.ensures
+  stop_le = charged_le begun.args.m.stop limits.stopcost_in begun.requires.1.2 c.charged-stop.ensures
 
 sum-requires : tie.Need-sum-requires
 sum-requires c κs = omega (arith, start-le c, stop_le c)
@@ -61,7 +61,7 @@ returns c =
       is = (cc);
       most = omega (
         arith,
-        ap nat_abs c.sum2.ensures,
+        ap nat_abs c.sum-2.ensures,
         ap nat_abs inner.ensures,
         abs_add (online d) inner.result.0,
         abs_add (start d) (stop d),
@@ -71,8 +71,8 @@ returns c =
       );
     }
 
-pub charge-of-spec : {M : Type 1} → statement M
-charge-of-spec =
+pub charge_of_spec : {M : Type 1} → statement M
+charge_of_spec =
     tie.close
     (tie.spec
     (λ c κs. search rules)

@@ -16,28 +16,28 @@ most : (s : tie.Start) → nat_abs s.args.over.0 * (s.args.p.0 + s.args.q.0) ≤
 most s = mul-le-mul {n₂ = most_margin} {m₂ = 2 * words} s.requires.1 (omega arith)
 
 -- what the energy of an hour is worth
-worth : (c : tie.After-multiple) → nat_abs c.multiple.result.0 ≤ most_margin * (2 * words)
+worth : (c : tie.After-multiple-gain) → nat_abs c.multiple-gain.result.0 ≤ most_margin * (2 * words)
 worth c =
     let s = c.before.before.before in
-    omega (arith, ap nat_abs c.multiple.ensures, abs_mul s.args.over.0 (s.args.p.0 + s.args.q.0), most s)
+    omega (arith, ap nat_abs c.multiple-gain.ensures, abs_mul s.args.over.0 (s.args.p.0 + s.args.q.0), most s)
 
-cast-multiple : tie.Need-overflow-cast-multiple
-cast-multiple c = search rules
+overflow_cast-p : tie.Need-overflow_cast-p
+overflow_cast-p c = search rules
 
-cast-multiple-2 : tie.Need-overflow-cast-multiple-2
-cast-multiple-2 c = search rules
+overflow_cast-q : tie.Need-overflow_cast-q
+overflow_cast-q c = search rules
 
-add-multiple : tie.Need-overflow-add-multiple
-add-multiple c = search rules
+overflow_add-p : tie.Need-overflow_add-p
+overflow_add-p c = search rules
 
-multiple-requires : tie.Need-multiple-requires
-multiple-requires c κs = let small = most c.before.before in omega arith
+multiple-gain-requires : tie.Need-multiple-gain-requires
+multiple-gain-requires c κs = let small = most c.before.before in omega arith
 
-marks-of-requires : tie.Need-marks-of-requires
-marks-of-requires c κs = search rules
+marks_of-requires : tie.Need-marks_of-requires
+marks_of-requires c κs = search rules
 
-charge-of-requires : tie.Need-charge-of-requires
-charge-of-requires c κs =
+charge_of-requires : tie.Need-charge_of-requires
+charge_of-requires c κs =
     let s = c.before.before.before.before in
     let m = c.marks_of.ensures in
     (s.requires.0, omega (arith, m.online.most, m.wasonline.most, m.start.most, m.stop.most))
@@ -52,21 +52,21 @@ returns c =
     let cost = c.before.charge_of in
     let marks = c.before.before.marks_of in
     let gain = c.before.before.before in
-    let net = abs_sub gain.multiple.result.0 cost.result.0 in
+    let net = abs_sub gain.multiple-gain.result.0 cost.result.0 in
     λ l k h. record {
-      is = c.difference.ensures ∙ hour_of h marks.ensures gain.multiple.ensures cost.ensures.is;
+      is = c.difference.ensures ∙ hour_of h marks.ensures gain.multiple-gain.ensures cost.ensures.is;
       most = omega (arith, ap nat_abs c.difference.ensures, net, worth gain, cost.ensures.most);
     }
 
-pub hour-profit-spec : {M : Type 1} → statement M
-hour-profit-spec =
+pub hour_profit_spec : {M : Type 1} → statement M
+hour_profit_spec =
     tie.close
     (tie.spec
-    cast-multiple
-    cast-multiple-2
-    add-multiple
-    multiple-requires
-    marks-of-requires
-    charge-of-requires
+    overflow_cast-p
+    overflow_cast-q
+    overflow_add-p
+    multiple-gain-requires
+    marks_of-requires
+    charge_of-requires
     difference-requires
     returns)

@@ -9,28 +9,28 @@ use Rattle.rules.proofs.BreachLaws.{found_none, found_some}
 use Rattle.rules.proofs.judge.Statement.{statement}
 use Rattle.rules.proofs.judge.Tie as tie
 
-first-breach-requires : tie.Need-first-breach-requires
-first-breach-requires c κs = search rules
+first_breach-found-requires : tie.Need-first_breach-found-requires
+first_breach-found-requires c κs = search rules
 
-profit-of-requires : tie.Need-profit-of-requires
-profit-of-requires c κs = c.before.before.before.before.requires.0
+profit_of-requires : tie.Need-profit_of-requires
+profit_of-requires c κs = c.before.before.before.before.requires.0
 
-returns : tie.Need-returns
-returns c =
+returns-then-found-eq0 : tie.Need-returns-then-found-eq0
+returns-then-found-eq0 c =
     let d = c.before.before.before in
-    let found = d.first_breach in
+    let found = d.first_breach-found in
     let a = d.before.before.args in
-    let none = found.ensures ∙ found_none found.result c.before.if1.true in
+    let none = found.ensures ∙ found_none found.result c.before.if-found-eq0.true in
     ap (λ x. Passes (record { 0 = x })) c.profit_of.ensures.is
     ∙ sym (ap (judged (profit_of a.case a.list.now)) none ∙ judged_none (profit_of a.case a.list.now))
 
-returns-2 : tie.Need-returns-2
-returns-2 c =
-    let found = c.before.before.first_breach in
+returns-else-found-eq0 : tie.Need-returns-else-found-eq0
+returns-else-found-eq0 c =
+    let found = c.before.before.first_breach-found in
     let a = c.before.before.before.before.args in
-    let some = found.ensures ∙ found_some found.result c.if1.false in
+    let some = found.ensures ∙ found_some found.result c.if-found-eq0.false in
     sym (ap (judged (profit_of a.case a.list.now)) some
     ∙ judged_some (profit_of a.case a.list.now) found.result)
 
-pub judge-spec : {M : Type 1} → statement M
-judge-spec = tie.close (tie.spec first-breach-requires profit-of-requires returns returns-2)
+pub judge_spec : {M : Type 1} → statement M
+judge_spec = tie.close (tie.spec first_breach-found-requires profit_of-requires returns-then-found-eq0 returns-else-found-eq0)

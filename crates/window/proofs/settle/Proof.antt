@@ -5,15 +5,15 @@ use Rattle.window.specs.Rows.{settled}
 use Rattle.window.proofs.settle.Statement.{statement}
 use Rattle.window.proofs.settle.Tie as tie
 
-returns : tie.Need-returns
+returns-then-below : tie.Need-returns-then-below
 unfolding settled
-returns c = simp (sym c.before.before.below.ensures ∙ c.before.if1.true) c.sum.ensures
+returns-then-below c = simp (sym c.before.before.below.ensures ∙ c.before.if-below.true) c.sum.ensures
 
-returns-2 : tie.Need-returns-2
+returns-else-below : tie.Need-returns-else-below
 unfolding settled
-returns-2 c = simp (sym c.before.before.below.ensures ∙ c.before.if1.false) c.none.ensures
+returns-else-below c = simp (sym c.before.before.below.ensures ∙ c.before.if-below.false) c.none.ensures
 
-pub settle-spec : {M : Type 1} → statement M
-settle-spec =
+pub settle_spec : {M : Type 1} → statement M
+settle_spec =
     tie.close
-    (tie.spec (λ c κs. search rules) (λ c κs. search rules) (λ c κs. search rules) returns returns-2)
+    (tie.spec (λ c κs. search rules) (λ c κs. search rules) (λ c κs. search rules) returns-then-below returns-else-below)

@@ -7,24 +7,24 @@ use Rattle.window.proofs.RowLaws.{amount_at_in, amount_at_past}
 use Rattle.window.proofs.taken.Statement.{statement}
 use Rattle.window.proofs.taken.Tie as tie
 
-returns : tie.Need-returns
-returns c =
+returns-then-more : tie.Need-returns-then-more
+returns-then-more c =
     let i = c.before.before in
     let a = i.before.args in
-    rw (amount_at_in a.row.now a.n a.at (i.before.requires.1.0 i.if1.true))
-    (cc (c.larger-of.ensures, c.before.value-at.ensures))
+    rw (amount_at_in a.row.now a.n a.at (i.before.requires.1.0 i.if-more.true))
+    (cc (c.larger_of.ensures, c.before.value_at.ensures))
 
-returns-2 : tie.Need-returns-2
-returns-2 c =
+returns-else-more : tie.Need-returns-else-more
+returns-else-more c =
     let s = c.before in
-    rw (amount_at_past s.args.row.now s.args.n s.args.at (s.requires.1.1 c.if1.false))
+    rw (amount_at_past s.args.row.now s.args.n s.args.at (s.requires.1.1 c.if-more.false))
     (sym (larger_of_ge s.requires.0.1))
 
-pub taken-spec : {M : Type 1} → statement M
-taken-spec =
+pub taken_spec : {M : Type 1} → statement M
+taken_spec =
     tie.close
     (tie.spec
-    (λ c κs. omega (arith, c.before.requires.0.0, c.before.requires.1.0 c.if1.true))
+    (λ c κs. omega (arith, c.before.requires.0.0, c.before.requires.1.0 c.if-more.true))
     (λ c κs. search rules)
-    returns
-    returns-2)
+    returns-then-more
+    returns-else-more)

@@ -9,8 +9,8 @@ wide-requires c κs = search rules
 times-requires : tie.Need-times-requires
 times-requires c κs = search rules
 
-add-result : tie.Need-overflow-add-result
-add-result c = search rules
+overflow_add-result : tie.Need-overflow_add-result
+overflow_add-result c = search rules
 
 wide-requires-2 : tie.Need-wide-requires-2
 wide-requires-2 c κs = search rules
@@ -18,20 +18,20 @@ wide-requires-2 c κs = search rules
 times-requires-2 : tie.Need-times-requires-2
 times-requires-2 c κs = search rules
 
-add-result-2 : tie.Need-overflow-add-result-2
-add-result-2 c = search rules
+overflow_add-result-2 : tie.Need-overflow_add-result-2
+overflow_add-result-2 c = search rules
 
 returns : tie.Need-returns
 returns c = cc
 
-pub below-most-spec : {M : Type 1} → statement M
-below-most-spec =
+pub below_most_spec : {M : Type 1} → statement M
+below_most_spec =
     tie.close
     (tie.spec
     wide-requires
     times-requires
-    add-result
+    overflow_add-result
     wide-requires-2
     times-requires-2
-    add-result-2
+    overflow_add-result-2
     returns)

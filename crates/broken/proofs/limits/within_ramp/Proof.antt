@@ -9,8 +9,8 @@ times-requires c κs = search rules
 times-requires-2 : tie.Need-times-requires-2
 times-requires-2 c κs = search rules
 
-add_most : tie.Need-overflow-add-most
-add_most c = search rules
+overflow_add-most : tie.Need-overflow_add-most
+overflow_add-most c = search rules
 
 wide-requires : tie.Need-wide-requires
 wide-requires c κs = search rules
@@ -18,28 +18,28 @@ wide-requires c κs = search rules
 times-requires-3 : tie.Need-times-requires-3
 times-requires-3 c κs = search rules
 
-add-result : tie.Need-overflow-add-result
-add-result c = search rules
+overflow_add-result : tie.Need-overflow_add-result
+overflow_add-result c = search rules
 
 wide-requires-2 : tie.Need-wide-requires-2
 wide-requires-2 c κs = search rules
 
-add-result-2 : tie.Need-overflow-add-result-2
-add-result-2 c = search rules
+overflow_add-result-2 : tie.Need-overflow_add-result-2
+overflow_add-result-2 c = search rules
 
 returns : tie.Need-returns
 returns c = cc
 
-pub within-ramp-spec : {M : Type 1} → statement M
-within-ramp-spec =
+pub within_ramp_spec : {M : Type 1} → statement M
+within_ramp_spec =
     tie.close
     (tie.spec
     times-requires
     times-requires-2
-    add_most
+    overflow_add-most
     wide-requires
     times-requires-3
-    add-result
+    overflow_add-result
     wide-requires-2
-    add-result-2
+    overflow_add-result-2
     returns)

@@ -11,19 +11,19 @@ use Rattle.broken.proofs.times.later.Tie as tie
 next-requires : tie.Need-next-requires
 next-requires c κs = search rules
 
-returns : tie.Need-returns
-returns c =
+returns-then-mark-eq1 : tie.Need-returns-then-mark-eq1
+returns-then-mark-eq1 c =
     λ case f k l m e.
-    record { is = sym (since_marked (h case) f k l (sym m ∙ c.if1.true)); most = omega arith }
+    record { is = sym (since_marked (h case) f k l (sym m ∙ c.if-mark-eq1.true)); most = omega arith }
 
-returns-2 : tie.Need-returns-2
-returns-2 c =
+returns-else-mark-eq1 : tie.Need-returns-else-mark-eq1
+returns-else-mark-eq1 c =
     λ case f k l m e.
-    let unmarked = since_unmarked (h case) f k l (λ one. c.before.if1.false (m ∙ one)) in
+    let unmarked = since_unmarked (h case) f k l (λ one. c.before.if-mark-eq1.false (m ∙ one)) in
     record {
       is = c.next.ensures ∙ ap (λ n. n + 1) e.is ∙ sym unmarked;
       most = omega (arith, c.next.ensures, e.most);
     }
 
-pub later-spec : {M : Type 1} → statement M
-later-spec = tie.close (tie.spec next-requires returns returns-2)
+pub later_spec : {M : Type 1} → statement M
+later_spec = tie.close (tie.spec next-requires returns-then-mark-eq1 returns-else-mark-eq1)

@@ -14,5 +14,5 @@ returns c =
       stop = record { is = sym (since_first a.elapsed.0 (z a l)); most = omega arith };
     }
 
-pub opening-spec : {M : Type 1} → statement M
-opening-spec = tie.close (tie.spec returns)
+pub opening_spec : {M : Type 1} → statement M
+opening_spec = tie.close (tie.spec returns)

@@ -6,8 +6,8 @@ use Rattle.lines.proofs.PutsLaws.{puts_then, room_first, room_then}
 use Rattle.lines.proofs.parts.put_field.Statement.{statement}
 use Rattle.lines.proofs.parts.put_field.Tie as tie
 
-put-decimal-requires : tie.Need-put-decimal-requires
-put-decimal-requires c κs =
+put_decimal-next-requires : tie.Need-put_decimal-next-requires
+put_decimal-next-requires c κs =
     let s = c.before.before.before in
     room_first (decimal s.args.n) s.args.after.now s.args.at (length s.args.out.now) s.requires
 
@@ -15,17 +15,17 @@ put-requires : tie.Need-put-requires
 put-requires c κs =
     let first = c.before.before.before in
     let s = first.before.before.before.before in
-    room_then (decimal s.args.n) s.args.after.now first.put-decimal.ensures s.requires
+    room_then (decimal s.args.n) s.args.after.now first.put_decimal-next.ensures s.requires
 
-same_length : tie.Need-same-length
-same_length c = search rules
+shape_of-out : tie.Need-shape_of-out
+shape_of-out c = search rules
 
 returns : tie.Need-returns
 returns c =
     let first = c.before.before.before.before.before.before in
     let s = first.before.before.before.before in
-    puts_then (decimal s.args.n) s.args.after.now first.put-decimal.ensures
+    puts_then (decimal s.args.n) s.args.after.now first.put_decimal-next.ensures
     c.before.before.put.ensures
 
-pub put-field-spec : {M : Type 1} → statement M
-put-field-spec = tie.close (tie.spec put-decimal-requires put-requires same_length returns)
+pub put_field_spec : {M : Type 1} → statement M
+put_field_spec = tie.close (tie.spec put_decimal-next-requires put-requires shape_of-out returns)

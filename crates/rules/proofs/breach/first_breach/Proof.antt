@@ -9,56 +9,56 @@ use Rattle.rules.proofs.BreachLaws.{broken_edge, kept_edge}
 use Rattle.rules.proofs.breach.first_breach.Statement.{statement}
 use Rattle.rules.proofs.breach.first_breach.Tie as tie
 
-abbrev start : tie.After-broken-edge → tie.Start
+abbrev start : tie.After-broken_edge-edge → tie.Start
 start c =
     let counted = c.before.before.before.before in
     counted.before.before.before.before
 
 -- there is a shut-down
-some : (c : tie.After-broken-edge) → 1 ≤ (start c).args.case.falls
-some c = let s = start c in (limits_of_refusal_of s.args.case s.pre.0).falls_pos
+some : (c : tie.After-broken_edge-edge) → 1 ≤ (start c).args.case.falls
+some c = let s = start c in (limits_of_refusal_of s.args.case s.requires.0).falls_pos
 
 -- the rule of hour 0
-edge : (c : tie.After-broken-edge)
+edge : (c : tie.After-broken_edge-edge)
     → let a = (start c).args in
-    c.broken_edge.result ≡ broken_at a.case a.list.now 0
+    c.broken_edge-edge.result ≡ broken_at a.case a.list.now 0
 edge c =
     let a = (start c).args in
     let l = a.list.now in
-    c.broken_edge.ensures l 0 c.before.numbers-at.ensures ∙ sym (broken_at_zero a.case l)
+    c.broken_edge-edge.ensures l 0 c.before.numbers_at.ensures ∙ sym (broken_at_zero a.case l)
 
-count-marks-requires : tie.Need-count-marks-requires
-count-marks-requires c κs = search rules
+count_marks-requires : tie.Need-count_marks-requires
+count_marks-requires c κs = search rules
 
-numbers-at-requires : tie.Need-numbers-at-requires
-numbers-at-requires c κs = search rules
+numbers_at-requires : tie.Need-numbers_at-requires
+numbers_at-requires c κs = search rules
 
-broken-edge-requires : tie.Need-broken-edge-requires
-broken-edge-requires c κs = search rules
+broken_edge-edge-requires : tie.Need-broken_edge-edge-requires
+broken_edge-edge-requires c κs = search rules
+
+returns-then-edge-ne0 : tie.Need-returns-then-edge-ne0
+returns-then-edge-ne0 c =
+    let d = c.before in
+    let a = (start d).args in
+    broken_edge a.case a.list.now (some d) d.broken_edge-edge.result (edge d) c.if-edge-ne0.true
+
+later_breach-requires : tie.Need-later_breach-requires
+later_breach-requires c κs = search rules
 
 returns : tie.Need-returns
 returns c =
-    let d = c.before in
-    let a = (start d).args in
-    broken_edge a.case a.list.now (some d) d.broken_edge.result (edge d) c.if1.true
-
-later-breach-requires : tie.Need-later-breach-requires
-later-breach-requires c κs = search rules
-
-returns-2 : tie.Need-returns-2
-returns-2 c =
     let d = c.before.before.before.before in
     let a = (start d).args in
-    kept_edge a.case a.list.now (some d) (sym (edge d) ∙ c.before.before.before.if1.false)
-    ∙ c.later-breach.ensures
+    kept_edge a.case a.list.now (some d) (sym (edge d) ∙ c.before.before.before.if-edge-ne0.false)
+    ∙ c.later_breach.ensures
 
-pub first-breach-spec : {M : Type 1} → statement M
-first-breach-spec =
+pub first_breach_spec : {M : Type 1} → statement M
+first_breach_spec =
     tie.close
     (tie.spec
-    count-marks-requires
-    numbers-at-requires
-    broken-edge-requires
-    returns
-    later-breach-requires
-    returns-2)
+    count_marks-requires
+    numbers_at-requires
+    broken_edge-edge-requires
+    returns-then-edge-ne0
+    later_breach-requires
+    returns)

@@ -13,145 +13,145 @@ use Rattle.rules.proofs.BreachLaws.{reach, Kept, onward_start, onward_step, onwa
 use Rattle.rules.proofs.breach.later_breach.Statement.{statement}
 use Rattle.rules.proofs.breach.later_breach.Tie as tie
 
-abbrev invariant-loop : tie.invariant-loop
-invariant-loop case list starts stops orders hours since₀ k₀ since k = Kept case list k since
+abbrev invariant-loop-k : tie.invariant-loop-k
+invariant-loop-k case list starts stops orders hours since₀ k₀ since k = Kept case list k since
 
-abbrev decreases-loop : tie.decreases-loop
-decreases-loop case list starts stops orders hours since₀ k₀ since k = hours + 1 - k
+abbrev decreases-loop-k : tie.decreases-loop-k
+decreases-loop-k case list starts stops orders hours since₀ k₀ since k = hours + 1 - k
 
-abbrev start : tie.In-loop invariant-loop decreases-loop → tie.Start invariant-loop decreases-loop
+abbrev start : tie.In-loop-k invariant-loop-k decreases-loop-k → tie.Start invariant-loop-k decreases-loop-k
 start c = c.before.before.before.before.before
 
-limits : (s : tie.Start invariant-loop decreases-loop) → Limits s.args.case
+limits : (s : tie.Start invariant-loop-k decreases-loop-k) → Limits s.args.case
 limits s = limits_of_refusal_of s.args.case s.requires.0
 
 -- the rule of the hour
-broken : (c : tie.After-broken-at invariant-loop decreases-loop)
+broken : (c : tie.After-broken_at-rule invariant-loop-k decreases-loop-k)
     → let a = (start c.before.before).args in
-    c.broken-at.result ≡ broken_at a.case a.list.now c.before.before.before.loop.k
+    c.broken_at-rule.result ≡ broken_at a.case a.list.now c.before.before.before.loop-k.k
 broken c =
-    let loop = c.before.before.before.loop in
+    let loop = c.before.before.before.loop-k in
     let a = (start c.before.before).args in
     let some = loop.invariant.some in
-    c.broken-at.ensures a.list.now loop.k some (search rules) c.before.numbers-at.ensures
+    c.broken_at-rule.ensures a.list.now loop.k some (search rules) c.before.numbers_at-n.ensures
     loop.invariant.elapsed
     (sym (hourly_at a.case.orders loop.k some))
 
-opening-requires : tie.Need-opening-requires invariant-loop decreases-loop
-opening-requires c κs = search rules
+opening-since-requires : tie.Need-opening-since-requires invariant-loop-k decreases-loop-k
+opening-since-requires c κs = search rules
 
-loop-holds : tie.Need-loop-init invariant-loop decreases-loop
-loop-holds c =
+loop-k-init : tie.Need-loop-k-init invariant-loop-k decreases-loop-k
+loop-k-init c =
     let s = c.before.before.before in
     record {
       some = omega arith;
       inside = omega arith;
       hours = onward_start;
-      elapsed = c.opening.ensures s.args.list.now;
+      elapsed = c.opening-since.ensures s.args.list.now;
     }
 
-cast-t13 : tie.Need-overflow-cast-t13 invariant-loop decreases-loop
-cast-t13 c = omega (arith, (limits (start c)).hours_le)
+overflow_cast-hour : tie.Need-overflow_cast-hour invariant-loop-k decreases-loop-k
+overflow_cast-hour c = omega (arith, (limits (start c)).hours_le)
 
-numbers-at-requires : tie.Need-numbers-at-requires invariant-loop decreases-loop
-numbers-at-requires c κs =
+numbers_at-n-requires : tie.Need-numbers_at-n-requires invariant-loop-k decreases-loop-k
+numbers_at-n-requires c κs =
     let s = start c in
-    (s.pre.0, (search rules, s.pre.1))
+    (s.requires.0, (search rules, s.requires.1))
 
-sub-broken-at : tie.Need-overflow-sub-broken-at invariant-loop decreases-loop
-sub-broken-at c = search rules
+overflow_sub-k : tie.Need-overflow_sub-k invariant-loop-k decreases-loop-k
+overflow_sub-k c = search rules
 
-array-read-broken-at : tie.Need-array-read-broken-at invariant-loop decreases-loop
-array-read-broken-at c = omega (arith, (limits (start c.before)).hours_le)
+bounds-orders-k : tie.Need-bounds-orders-k invariant-loop-k decreases-loop-k
+bounds-orders-k c = omega (arith, (limits (start c.before)).hours_le)
 
-broken-at-requires : tie.Need-broken-at-requires invariant-loop decreases-loop
-broken-at-requires c κs = (start c.before).pre.0
+broken_at-rule-requires : tie.Need-broken_at-rule-requires invariant-loop-k decreases-loop-k
+broken_at-rule-requires c κs = (start c.before).requires.0
 
-returns : tie.Need-returns invariant-loop decreases-loop
-returns c =
+returns-then-rule-ne0 : tie.Need-returns-then-rule-ne0 invariant-loop-k decreases-loop-k
+returns-then-rule-ne0 c =
     let d = c.before in
     let room = (limits (start d.before.before)).falls_pos in
-    onward_broken d.before.before.before.loop.invariant.hours d.broken-at.result (omega arith) (broken d)
-    c.if1.true
+    onward_broken d.before.before.before.loop-k.invariant.hours d.broken_at-rule.result (omega arith) (broken d)
+    c.if-rule-ne0.true
 
-passed-requires : tie.Need-passed-requires invariant-loop decreases-loop
-passed-requires c κs =
+passed-since-requires : tie.Need-passed-since-requires invariant-loop-k decreases-loop-k
+passed-since-requires c κs =
     let d = c.before.before.before in
     let h = limits (start d) in
-    let e = d.before.loop.invariant.elapsed in
+    let e = d.before.loop-k.invariant.elapsed in
     omega (arith, e.start.most, e.stop.most, h.hours_le, h.elapsed_le)
 
-add-k : tie.Need-overflow-add-k invariant-loop decreases-loop
-add-k c = omega (arith, (limits (start c.before.before.before.before)).hours_le)
+overflow_add-k : tie.Need-overflow_add-k invariant-loop-k decreases-loop-k
+overflow_add-k c = omega (arith, (limits (start c.before.before.before.before)).hours_le)
 
-loop-less : tie.Need-loop-smaller invariant-loop decreases-loop
-loop-less c = search rules
+loop-k-smaller : tie.Need-loop-k-smaller invariant-loop-k decreases-loop-k
+loop-k-smaller c = search rules
 
-loop-again : tie.Need-loop-preserved invariant-loop decreases-loop
-loop-again c =
+loop-k-preserved : tie.Need-loop-k-preserved invariant-loop-k decreases-loop-k
+loop-k-preserved c =
     let d = c.before.before in
-    let loop = d.before.before.before.loop in
+    let loop = d.before.before.before.loop-k in
     let a = (start d.before.before).args in
-    let next = c.passed.ensures a.case a.list.now loop.k loop.invariant.some in
+    let next = c.passed-since.ensures a.case a.list.now loop.k loop.invariant.some in
     let room = (limits (start d.before.before)).falls_pos in
     record {
       some = omega arith;
       inside = search rules;
-      hours = onward_step loop.invariant.hours (omega arith) (sym (broken d) ∙ c.before.if1.false);
-      elapsed = next d.before.numbers-at.ensures loop.invariant.elapsed;
+      hours = onward_step loop.invariant.hours (omega arith) (sym (broken d) ∙ c.before.if-rule-ne0.false);
+      elapsed = next d.before.numbers_at-n.ensures loop.invariant.elapsed;
     }
 
 -- what is carried past the end of the day
-late : (c : tie.After-loop invariant-loop decreases-loop)
+late : (c : tie.After-loop-k invariant-loop-k decreases-loop-k)
     → let s = c.before.before.before.before.before in
-    Late s.args.case s.args.list.now s.args.stops.now c.before.loop.since.start.0
+    Late s.args.case s.args.list.now s.args.stops.now c.before.loop-k.since.start.0
 late c =
     let s = c.before.before.before.before.before in
     let case = s.args.case in
-    let inv = c.before.loop.invariant in
+    let inv = c.before.loop-k.invariant in
     record {
       stops = s.requires.1.stops;
-      held = subst (λ k. Held case (y case s.args.list.now) k c.before.loop.since.start.0)
-          (let e : c.before.loop.k ≡ case.hours + 1 = omega (arith, inv.inside) in e) inv.elapsed.start;
+      held = subst (λ k. Held case (y case s.args.list.now) k c.before.loop-k.since.start.0)
+          (let e : c.before.loop-k.k ≡ case.hours + 1 = omega (arith, inv.inside) in e) inv.elapsed.start;
     }
 
-late-breach-requires : tie.Need-late-breach-requires invariant-loop decreases-loop
-late-breach-requires c κs =
+late_breach-requires : tie.Need-late_breach-requires invariant-loop-k decreases-loop-k
+late_breach-requires c κs =
     let s = c.before.before.before.before.before in
-    (s.requires.0, (s.args.list.now, late c))
+    (s.requires.0, (s.args.list.now, late c.before))
 
-returns-2 : tie.Need-returns-2 invariant-loop decreases-loop
-returns-2 c =
+returns : tie.Need-returns invariant-loop-k decreases-loop-k
+returns c =
     let a = c.before in
     let s = a.before.before.before.before.before in
     let case = s.args.case in
     let l = s.args.list.now in
-    let inv = a.before.loop.invariant in
-    let some = (limits s).falls_pos in
-    let rest : 1 + reach case - a.before.loop.k ≡ case.falls - 1 = omega (arith, inv.inside) in
-    let here : a.before.loop.k ≡ case.hours + 1 = omega (arith, inv.inside) in
+    let inv = a.before.loop-k.invariant in
+    let some = (limits s.before).falls_pos in
+    let rest : 1 + reach case - a.before.loop-k.k ≡ case.falls - 1 = omega (arith, inv.inside) in
+    let here : a.before.loop-k.k ≡ case.hours + 1 = omega (arith, inv.inside) in
     inv.hours.onward
-    ∙ ap (breach_from case l a.before.loop.k) rest
+    ∙ ap (breach_from case l a.before.loop-k.k) rest
     ∙ ap (λ k. breach_from case l k (case.falls - 1)) here
-    ∙ c.late-breach.ensures l (late a)
+    ∙ c.late_breach.ensures l (late a.before)
 
-pub later-breach-spec : {M : Type 1} → statement M
-later-breach-spec =
+pub later_breach_spec : {M : Type 1} → statement M
+later_breach_spec =
     tie.close
     (tie.spec
-    invariant-loop
-    decreases-loop
-    opening-requires
-    loop-holds
-    cast-t13
-    numbers-at-requires
-    sub-broken-at
-    array-read-broken-at
-    broken-at-requires
-    returns
-    passed-requires
-    add-k
-    loop-less
-    loop-again
-    late-breach-requires
-    returns-2)
+    invariant-loop-k
+    decreases-loop-k
+    opening-since-requires
+    loop-k-init
+    overflow_cast-hour
+    numbers_at-n-requires
+    overflow_sub-k
+    bounds-orders-k
+    broken_at-rule-requires
+    returns-then-rule-ne0
+    passed-since-requires
+    overflow_add-k
+    loop-k-smaller
+    loop-k-preserved
+    late_breach-requires
+    returns)
