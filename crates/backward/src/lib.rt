@@ -1,6 +1,8 @@
 // The backward pass: the layers back from the end of the day, of which every l-th is kept in the working numbers, and
 // the entries of all hours. The definitions are those of cells' specs/Table and slots' specs/Saved. The function is
 // called by crates of this repository, which keep what it asks for.
+#![tactic(auto)]
+
 ghost use Rattle.std.specs.Prelude.{◌≡◌, length};
 ghost use Rattle.machine.specs.Moves.{day_of};
 ghost use Rattle.machine.specs.Fit.{Fit};

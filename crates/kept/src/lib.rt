@@ -2,6 +2,8 @@
 // the next that has a slot. Either is made once for the hours that there are places for, and made again where the plan
 // comes past them. The definitions are those of locks' specs/Held and specs/Locked and slots' specs/Saved. Each
 // function is called by crates of this repository, which keep what it asks for.
+#![tactic(auto)]
+
 ghost use Rattle.std.specs.Prelude.{◌≡◌, suc, ◌≤◌, ◌<◌, length};
 ghost use Rattle.machine.specs.Moves.{day_of};
 ghost use Rattle.machine.specs.Fit.{Fit};

@@ -1,6 +1,8 @@
 // The rows of a lock, made from the layer of the hour at which the lock ends, or the end of the day, and kept while the
 // plan goes through its hours. The definitions are those of specs/Locked and slots' specs/Saved. Each function is
 // called by crates of this repository, which keep what it asks for.
+#![tactic(auto)]
+
 ghost use Rattle.std.specs.Prelude.{◌≡◌, suc, ◌+◌, ◌-◌, ◌≤◌, ◌<◌, min, length, get_or, pos};
 ghost use Rattle.laws.specs.Placed.{Part};
 ghost use Rattle.machine.specs.Moves.{day_of};

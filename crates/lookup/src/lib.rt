@@ -2,6 +2,8 @@
 // row of the lock that is kept. The definitions are those of machine's specs/Moves, cells' specs/Table, slots'
 // specs/Saved, locks' specs/Locked and kept's specs/Held. Each function is called by crates of this repository, which
 // keep what it asks for.
+#![tactic(auto)]
+
 ghost use Rattle.std.specs.Prelude.{◌≡◌, ℕ, ◌+◌, ◌-◌, ◌≤◌, ◌<◌, length};
 ghost use Rattle.machine.specs.Search.{choice_at};
 ghost use Rattle.machine.specs.Moves.{tariff_of, Tariff, day_of, machine, worth, chosen, Worths};

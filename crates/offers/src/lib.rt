@@ -2,6 +2,8 @@
 // list that passes comes before one that does not; of two that pass the one that earns more; of equal earners the one
 // that is lower at the first hour where they differ; of identical lists the first. A refused reading, a refused record
 // and a list that is not of T outputs are refused as the check refuses them. The lists are only read.
+#![tactic(auto)]
+
 ghost use Rattle.std.specs.Prelude.{◌≡◌, List, ℕ, ℤ, length};
 ghost use Rattle.model.specs.Best.{lower, leads};
 ghost use Rattle.model.specs.Compared.{compared_of, part_of, better_of};

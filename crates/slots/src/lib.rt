@@ -2,6 +2,8 @@
 // one to the next, a layer into its slot and out of it, and the layer of any hour, made again from the next that is
 // kept. The definitions are those of specs/Saved and of cells' specs/Table. Each function is called by crates of this
 // repository, which keep what it asks for.
+#![tactic(auto)]
+
 ghost use Rattle.std.specs.Prelude.{◌≡◌, ℕ, suc, ◌+◌, ◌*◌, ◌≤◌, ◌<◌, length, get_or, pos};
 ghost use Rattle.laws.specs.Placed.{Part};
 ghost use Rattle.cases.specs.Limits.{long_work};

@@ -1,5 +1,7 @@
 // The layers of hours in a row, made from the next that has a slot. The definitions are those of slots' specs/Spanned
 // and specs/Saved. The function is called by crates of this repository, which keep what it asks for.
+#![tactic(auto)]
+
 ghost use Rattle.std.specs.Prelude.{◌≡◌, ◌+◌, ◌≤◌, ◌<◌, min, length};
 ghost use Rattle.machine.specs.Moves.{day_of};
 ghost use Rattle.machine.specs.Fit.{Fit};

@@ -12,136 +12,136 @@ use Rattle.slots.proofs.Slots.{slotted_in, saved_start}
 use Rattle.backward.proofs.all_entries.Statement.{statement}
 use Rattle.backward.proofs.all_entries.Tie as tie
 
-abbrev invariant-loop : tie.invariant-loop
-invariant-loop u charges margins orders costs l n entries₀ work₀ row₀ side₀ k₀ entries work row side k =
+abbrev invariant-loop-k : tie.invariant-loop-k
+invariant-loop-k u charges margins orders costs l n entries₀ work₀ row₀ side₀ k₀ entries work row side k =
     (k.0 ≤ u.hours.0) × Layer u (worth u (day_of margins orders charges costs) k.0) row side
     × Entries u (day_of margins orders charges costs) (k.0 - u.lock.0) entries
     × Saved u (day_of margins orders charges costs) l.0 n k.0 work × (length work ≡ length work₀)
 
-abbrev decreases-loop : tie.decreases-loop
-decreases-loop u charges margins orders costs l n entries₀ work₀ row₀ side₀ k₀ entries work row side k = k.0
+abbrev decreases-loop-k : tie.decreases-loop-k
+decreases-loop-k u charges margins orders costs l n entries₀ work₀ row₀ side₀ k₀ entries work row side k = k.0
 
 -- the places that the proof goes back to: the call, the loop's test, the layer that a turn makes, and its entry
-abbrev start : tie.At-loop invariant-loop decreases-loop → tie.Start invariant-loop decreases-loop
+abbrev start : tie.At-loop-k invariant-loop-k decreases-loop-k → tie.Start invariant-loop-k decreases-loop-k
 start c = c.before.before.before.before.before.before.before.before.before
 
-abbrev turn : tie.After-step-hour invariant-loop decreases-loop → tie.Then1 invariant-loop decreases-loop
-turn c = c.before.before.before.before.before
+abbrev turn : tie.After-step_hour invariant-loop-k decreases-loop-k → tie.In-loop-k invariant-loop-k decreases-loop-k
+turn c = c.before.before.before.before
 
-abbrev made : tie.After-enter invariant-loop decreases-loop → tie.After-step-hour invariant-loop decreases-loop
+abbrev made : tie.After-enter invariant-loop-k decreases-loop-k → tie.After-step_hour invariant-loop-k decreases-loop-k
 made c = c.before.before.before
 
-abbrev entered : tie.After-save-if invariant-loop decreases-loop → tie.After-enter invariant-loop decreases-loop
+abbrev entered : tie.After-save_if invariant-loop-k decreases-loop-k → tie.After-enter invariant-loop-k decreases-loop-k
 entered c = c.before.before.before.before
 
 -- the hour that a turn comes to
-up : (c : tie.Then1 invariant-loop decreases-loop) → c.before.before.loop.k.0 ≡ suc (c.before.before.loop.k.0 - 1)
-up c = omega (arith, c.if1.true)
+up : (c : tie.In-loop-k invariant-loop-k decreases-loop-k) → c.before.before.loop-k.k.0 ≡ suc (c.before.before.loop-k.k.0 - 1)
+up c = omega (arith, c.loop-k-test.true)
 
-last-entries-requires : tie.Need-last-entries-requires invariant-loop decreases-loop
-last-entries-requires c κs = let s = c.before.before in (s.requires.0, (s.requires.1.0, s.requires.1.1.1))
+last_entries-requires : tie.Need-last_entries-requires invariant-loop-k decreases-loop-k
+last_entries-requires c κs = let s = c.before.before in (s.requires.0, (s.requires.1.0, s.requires.1.1.1))
 
-end-row-requires : tie.Need-end-row-requires invariant-loop decreases-loop
-end-row-requires c κs = c.before.before.before.before.requires.0
+end_row-requires : tie.Need-end_row-requires invariant-loop-k decreases-loop-k
+end_row-requires c κs = c.before.before.before.before.requires.0
 
-end-side-requires : tie.Need-end-side-requires invariant-loop decreases-loop
-end-side-requires c κs = let s = c.before.before.before.before.before.before in s.requires.0
+end_side-requires : tie.Need-end_side-requires invariant-loop-k decreases-loop-k
+end_side-requires c κs = let s = c.before.before.before.before.before.before in s.requires.0
 
-loop-holds : tie.Need-loop-init invariant-loop decreases-loop
-loop-holds c =
+loop-k-init : tie.Need-loop-k-init invariant-loop-k decreases-loop-k
+loop-k-init c =
     let s = c.before.before.before.before.before.before.before.before in
-    let first = c.before.before.before.before.before.last-entries in
+    let first = c.before.before.before.before.before.last_entries in
     let q = s.requires.1.1 in (
       omega arith,
-      record { row = c.before.before.before.End-row.ensures _ 0; side = c.before.end_side.ensures _ },
+      record { row = c.before.before.before.end_row.ensures _ 0; side = c.before.end_side.ensures _ },
       first.ensures,
       saved_start s.args.u s.args.l.0 s.args.n q.0 _,
       refl,
     )
 
-sub-t18 : tie.Need-overflow-sub-t18 invariant-loop decreases-loop
-sub-t18 c = omega (arith, c.before.if1.true)
+overflow_sub-k : tie.Need-overflow_sub-k invariant-loop-k decreases-loop-k
+overflow_sub-k c = omega (arith, c.before.loop-k-test.true)
 
-step-hour-requires : tie.Need-step-hour-requires invariant-loop decreases-loop
-step-hour-requires c κs =
-    let t = c.before.before.before.before in
-    let l = t.before.before.loop in
+step_hour-requires : tie.Need-step_hour-requires invariant-loop-k decreases-loop-k
+step_hour-requires c κs =
+    let t = c.before.before.before in
+    let l = t.before.before.loop-k in
     let s = start t.before.before in
     let u = s.args.u in (
-      s.pre.0,
+      s.requires.0,
       (
-        s.pre.1.0,
+        s.requires.1.0,
         (
-          omega (arith, t.if1.true, l.invariant.0),
+          omega (arith, t.loop-k-test.true, l.invariant.0),
           layer_at u _ (up t) l.invariant.1,
           entries_from u _ _ (omega (arith, up t)) l.invariant.2,
         ),
       ),
     )
 
-enter-requires : tie.Need-enter-requires invariant-loop decreases-loop
+enter-requires : tie.Need-enter-requires invariant-loop-k decreases-loop-k
 enter-requires c κs =
     let m = c.before.before in
     let t = turn m in
-    let l = t.before.before.loop in
+    let l = t.before.before.loop-k in
     let s = start t.before.before in (
-      s.pre.0,
+      s.requires.0,
       (
-        s.pre.1.0,
+        s.requires.1.0,
         (
-          omega (arith, t.if1.taken, l.inv.0),
-          m.step-hour.ensures.row,
-          entries_at s.args.u _ (omega (arith, up t)) l.inv.2,
+          omega (arith, t.loop-k-test.true, l.invariant.0),
+          m.step_hour.ensures.row,
+          entries_at s.args.u _ (omega (arith, up t)) l.invariant.2,
         ),
       ),
     )
 
-save-if-requires : tie.Need-save-if-requires invariant-loop decreases-loop
-save-if-requires c κs =
+save_if-requires : tie.Need-save_if-requires invariant-loop-k decreases-loop-k
+save_if-requires c κs =
     let m = made c.before.before.before in
     let t = turn m in
-    let l = t.before.before.loop in
+    let l = t.before.before.loop-k in
     let s = start t.before.before in (
-      s.pre.0,
+      s.requires.0,
       (
-        (omega (arith, t.if1.taken, l.inv.0), slotted_in (sym l.inv.4) s.pre.1.1.0),
-        (m.step-hour.ensures.row.long, m.step-hour.ensures.side.long),
+        (omega (arith, t.loop-k-test.true, l.invariant.0), slotted_in (sym l.invariant.4) s.requires.1.1.0),
+        (m.step_hour.ensures.row.long, m.step_hour.ensures.side.long),
       ),
     )
 
-loop-less : tie.Need-loop-smaller invariant-loop decreases-loop
-loop-less c = omega (arith, (turn (made (entered c.before))).if1.taken)
+loop-k-smaller : tie.Need-loop-k-smaller invariant-loop-k decreases-loop-k
+loop-k-smaller c = omega (arith, (turn (made (entered c.before))).loop-k-test.true)
 
-loop-again : tie.Need-loop-preserved invariant-loop decreases-loop
-loop-again c =
+loop-k-preserved : tie.Need-loop-k-preserved invariant-loop-k decreases-loop-k
+loop-k-preserved c =
     let e = entered c.before in
     let m = made e in
     let t = turn m in
-    let l = t.before.before.loop in
+    let l = t.before.before.loop-k in
     let a = (start t.before.before).args in
     let day = day_of a.margins.now a.orders.now a.charges a.costs.now in (
-      omega (arith, l.inv.0),
-      m.step-hour.ensures,
+      omega (arith, l.invariant.0),
+      m.step_hour.ensures,
       e.enter.ensures,
-      c.before.save-if.ensures day m.step-hour.ensures
-          (subst (λ m. Saved a.u day a.l.0 a.n m l.work) (up t) l.inv.3),
-      c.before.save-if.auto.1.1.1.1.1.1.0 ∙ l.inv.4,
+      c.before.save_if.ensures day m.step_hour.ensures
+          (subst (λ m. Saved a.u day a.l.0 a.n m l.work) (up t) l.invariant.3),
+      c.before.save_if.auto.work ∙ l.invariant.4,
     )
 
-same_length : tie.Need-same-length invariant-loop decreases-loop
-same_length c = c.before.before.loop.invariant.4
+shape_of-work : tie.Need-shape_of-work invariant-loop-k decreases-loop-k
+shape_of-work c = c.before.before.loop-k.invariant.4
 
-returns : tie.Need-returns invariant-loop decreases-loop
+returns : tie.Need-returns invariant-loop-k decreases-loop-k
 returns c =
-    let l = c.before.before.loop in
+    let l = c.before.before.loop-k in
     let a = (start c.before.before).args in
     let day = day_of a.margins.now a.orders.now a.charges a.costs.now in
-    let e : l.k.0 ≡ 0 = omega (arith, c.if1.false) in (
+    let e : l.k.0 ≡ 0 = omega (arith, c.loop-k-test.false) in (
       entries_at a.u day (omega arith) l.invariant.2,
       subst (λ m. Saved a.u day a.l.0 a.n m l.work) e l.invariant.3,
     )
 
-pub all-entries-spec : {M : Type 1} → statement M
-all-entries-spec =
-    tie.close (tie.spec invariant-loop decreases-loop last-entries-requires end-row-requires end-side-requires loop-holds sub-t18
-    step-hour-requires enter-requires save-if-requires loop-less loop-again same_length returns)
+pub all_entries_spec : {M : Type 1} → statement M
+all_entries_spec =
+    tie.close (tie.spec invariant-loop-k decreases-loop-k last_entries-requires end_row-requires end_side-requires loop-k-init overflow_sub-k
+    step_hour-requires enter-requires save_if-requires loop-k-smaller loop-k-preserved shape_of-work returns)

@@ -9,60 +9,60 @@ use Rattle.kept.proofs.keep_layers.Statement.{statement}
 use Rattle.kept.proofs.keep_layers.Tie as tie
 
 -- the call, seen from where the next slot or the end of the day is known
-abbrev start : tie.After-least → tie.Start
-start c = c.before.before.before.before.before
+abbrev start : tie.After-least-base → tie.Start
+start c = c.before.before.before.before.before.before.before
 
-module _ (c : tie.After-least) where
-  hour : c.before.slot_from_is.result.hour.0
+module _ (c : tie.After-least-base) where
+  hour : c.before.slot_from-slot.result.hour.0
       ≡ slot_from (start c).args.l.0 (start c).args.k.0 * (start c).args.l.0
   hour =
-      let slot = c.before.slot_from_is in
+      let slot = c.before.slot_from-slot in
       slot.ensures.1 ∙ ap (λ n. n * (start c).args.l.0) slot.ensures.0
 
   -- it is not before the hour
-  ahead : (start c).args.k.0 ≤ c.least.result.0
+  ahead : (start c).args.k.0 ≤ c.least-base.result.0
   ahead =
       let s = start c in
-      let q = s.pre.1.1 in
-      omega (arith, c.least.ensures, hour, slot_from_is s.args.l.0 s.args.k.0 q.0.1.stride_pos, q.0.0)
+      let q = s.requires.1.1 in
+      omega (arith, c.least-base.ensures, hour, slot_from_is s.args.l.0 s.args.k.0 q.0.1.stride_pos, q.0.0)
 
-  within : c.least.result.0 ≤ (start c).args.u.hours.0
-  within = omega (arith, c.least.ensures)
+  within : c.least-base.result.0 ≤ (start c).args.u.hours.0
+  within = omega (arith, c.least-base.ensures)
+
+returns-then-k-held : tie.Need-returns-then-k-held
+returns-then-k-held c =
+    let s = c.before.before.before.before.before.before in
+    let h = s.requires.1.1.1.1 in
+    ((λ in_day out. (c.if-k-held.true, h.layers c.before.before.before.if-held-eq0.true)), h)
+
+slot_from-slot-requires : tie.Need-slot_from-slot-requires
+slot_from-slot-requires c κs = search rules
+
+least-base-requires : tie.Need-least-base-requires
+least-base-requires c κs = search rules
+
+-- the hour has a slot, or the day is over
+returns-then-base-k : tie.Need-returns-then-base-k
+returns-then-base-k c =
+    let d = c.before.before.before in
+    let s = start d in (
+      λ in_day out. absurd (out (sym (hour d) ∙ omega (arith, d.least-base.ensures, c.if-base-k.true))),
+      s.requires.1.1.1.1,
+    )
+
+fill-to-requires : tie.Need-fill-to-requires
+fill-to-requires c κs =
+    let d = c.before.before.before.before in
+    let s = start d in
+    let q = s.requires.1.1 in
+    (s.requires.0, (s.requires.1.0, ((ahead d, within d, q.0.1), (q.1.0, q.1.1.long))))
 
 returns : tie.Need-returns
 returns c =
-    let s = c.before.before.before.before.before.before in
-    let h = s.requires.1.1.1.1 in
-    ((λ in_day out. (c.if2.true, h.layers c.before.before.before.if1.true)), h)
-
-slot-from-requires : tie.Need-slot-from-requires
-slot-from-requires c κs = search rules
-
-least-requires : tie.Need-least-requires
-least-requires c κs = search rules
-
--- the hour has a slot, or the day is over
-returns-2 : tie.Need-returns-2
-returns-2 c =
-    let d = c.before.before.before in
-    let s = start d in (
-      λ in_day out. absurd (out (sym (hour d) ∙ omega (arith, d.least.ensures, c.if3.true))),
-      s.pre.1.1.1.1,
-    )
-
-fill-requires : tie.Need-fill-requires
-fill-requires c κs =
-    let d = c.before.before.before.before in
-    let s = start d in
-    let q = s.pre.1.1 in
-    (s.pre.0, (s.pre.1.0, ((ahead d, within d, q.0.1), (q.1.0, q.1.1.long))))
-
-returns-3 : tie.Need-returns-3
-returns-3 c =
     let e = c.before.before in
     let d = e.before.before.before in
-    let (to, spanned) = c.fill.ensures in (
-      λ in_day out. (omega (arith, to, ahead d, e.if3.false), spanned),
+    let (to, spanned) = c.fill-to.ensures in (
+      λ in_day out. (omega (arith, to, ahead d, e.if-base-k.false), spanned),
       record {
         long = spanned.long;
         few = omega (arith, to);
@@ -71,5 +71,5 @@ returns-3 c =
       },
     )
 
-pub keep-layers-spec : {M : Type 1} → statement M
-keep-layers-spec = tie.close (tie.spec returns slot-from-requires least-requires returns-2 fill-requires returns-3)
+pub keep_layers_spec : {M : Type 1} → statement M
+keep_layers_spec = tie.close (tie.spec returns-then-k-held slot_from-slot-requires least-base-requires returns-then-base-k fill-to-requires returns)

@@ -4,8 +4,8 @@ use native.Mathlib.Omega.{arith}
 use Rattle.kept.proofs.keep_rows.Statement.{statement}
 use Rattle.kept.proofs.keep_rows.Tie as tie
 
-returns : tie.Need-returns
-returns c = search rules
+returns-then-k-held : tie.Need-returns-then-k-held
+returns-then-k-held c = search rules
 
 fill-requires : tie.Need-fill-requires
 fill-requires c κs =
@@ -13,8 +13,8 @@ fill-requires c κs =
     let q = s.requires.1.1 in
     (s.requires.0, (s.requires.1.0, ((omega (arith, q.0.0), q.0.1, q.0.2), (q.1.0, q.1.1.long))))
 
-returns-2 : tie.Need-returns-2
-returns-2 c =
+returns : tie.Need-returns
+returns c =
     let s = c.before.before.before.before.before.before in
     let q = s.requires.1.1 in
     let (end, to, locked) = c.fill.ensures in (
@@ -28,5 +28,5 @@ returns-2 c =
       },
     )
 
-pub keep-rows-spec : {M : Type 1} → statement M
-keep-rows-spec = tie.close (tie.spec returns fill-requires returns-2)
+pub keep_rows_spec : {M : Type 1} → statement M
+keep_rows_spec = tie.close (tie.spec returns-then-k-held fill-requires returns)

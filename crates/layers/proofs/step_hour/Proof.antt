@@ -12,30 +12,30 @@ use Rattle.layers.proofs.step_hour.Statement.{statement}
 use Rattle.layers.proofs.step_hour.Tie as tie
 
 -- the entry of the hour after
-abbrev start : tie.After-value-at → tie.Start
+abbrev start : tie.After-value_at-e → tie.Start
 start c = c.before.before.before.before
 
-entered : (c : tie.After-value-at) → c.value-at.result.0
+entered : (c : tie.After-value_at-e) → c.value_at-e.result.0
     ≡ entry (start c).args.u (worth (start c).args.u (day_of (start c).args.margins.now
     (start c).args.orders.now (start c).args.charges (start c).args.costs.now) (suc (start c).args.k.0))
 entered c =
     let s = start c in
-    rw add-one at c.value-at.ensures
-    ∙ s.pre.1.1.2.at (suc s.args.k.0) (omega arith) (omega (arith, s.pre.1.1.0))
+    rw add-one at c.value_at-e.ensures
+    ∙ s.requires.1.1.2.at (suc s.args.k.0) (omega arith) (omega (arith, s.requires.1.1.0))
 
-cast-value-at : tie.Need-overflow-cast-value-at
-cast-value-at c = search rules
+overflow_cast-k : tie.Need-overflow_cast-k
+overflow_cast-k c = search rules
 
-add-value-at : tie.Need-overflow-add-value-at
-add-value-at c = let s = c.before.before.before in omega (arith, s.requires.1.1.0, s.requires.0.hours_le)
+overflow_add-k : tie.Need-overflow_add-k
+overflow_add-k c = let s = c.before.before.before in omega (arith, s.requires.1.1.0, s.requires.0.hours_le)
 
-value-at-requires : tie.Need-value-at-requires
-value-at-requires c κs =
+value_at-e-requires : tie.Need-value_at-e-requires
+value_at-e-requires c κs =
     let s = c.before.before.before in
     omega (arith, s.requires.1.1.2.long, s.requires.1.1.0, s.requires.0.hours_le)
 
-terms-at-requires : tie.Need-terms-at-requires
-terms-at-requires c κs = let s = c.before.before.before.before in (
+terms_at-t-requires : tie.Need-terms_at-t-requires
+terms_at-t-requires c κs = let s = c.before.before.before.before in (
   omega (arith, s.requires.1.1.0, s.requires.1.0.margins_long),
   omega
       (arith, s.requires.1.1.0, s.requires.1.0.orders_long),
@@ -45,11 +45,11 @@ step-requires : tie.Need-step-requires
 step-requires c κs =
     let v = c.before.before.before in
     let s = start v in
-    let fair = s.pre.1.0.fair in (
-      s.pre.0,
+    let fair = s.requires.1.0.fair in (
+      s.requires.0,
       (
-        rw c.before.before.terms-at.ensures (fair _),
-        (_, sized_at s.args.u _ s.pre.0 fair (suc s.args.k.0), s.pre.1.1.1, entered v),
+        rw c.before.before.terms_at-t.ensures (fair _),
+        (_, sized_at s.args.u _ s.requires.0 fair (suc s.args.k.0), s.requires.1.1.1, entered v),
       ),
     )
 
@@ -60,10 +60,10 @@ returns c =
     let u = s.args.u in
     let day = day_of s.args.margins.now s.args.orders.now s.args.charges s.args.costs.now in
     let k = s.args.k.0 in
-    layer_hour u day k s.pre.1.1.0
-    (rw c.before.before.before.terms-at.ensures at (c.step.ensures (worth u day (suc k))
-    (sized_at u day s.pre.0 s.pre.1.0.fair (suc k)) s.pre.1.1.1 (entered v)))
+    layer_hour u day k s.requires.1.1.0
+    (rw c.before.before.before.terms_at-t.ensures at (c.step.ensures (worth u day (suc k))
+    (sized_at u day s.requires.0 s.requires.1.0.fair (suc k)) s.requires.1.1.1 (entered v)))
 
-pub step-hour-spec : {M : Type 1} → statement M
-step-hour-spec =
-    tie.close (tie.spec cast-value-at add-value-at value-at-requires terms-at-requires step-requires returns)
+pub step_hour_spec : {M : Type 1} → statement M
+step_hour_spec =
+    tie.close (tie.spec overflow_cast-k overflow_add-k value_at-e-requires terms_at-t-requires step-requires returns)

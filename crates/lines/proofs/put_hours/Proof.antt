@@ -74,7 +74,7 @@ loop-i-preserved c =
     let outputs = args.outputs.now in
     let output = get_or outputs l.i 0 in (
       omega arith,
-      call.put_hour-next.auto.0 ∙ l.invariant.1,
+      call.put_hour-next.auto.out ∙ l.invariant.1,
       sym (ap (p case outputs) (add-one l.i) ∙ p_suc case outputs l.i),
       rw (hour_lines_more case outputs l.i l.invariant.2)
           (puts_then (hour_lines case outputs l.i) (hour_line (l.i + 1) output (output + l.before.0)) l.invariant.3

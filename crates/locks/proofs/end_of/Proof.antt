@@ -5,22 +5,22 @@ use Rattle.locks.proofs.LockedLaws.{lock_small}
 use Rattle.locks.proofs.end_of.Statement.{statement}
 use Rattle.locks.proofs.end_of.Tie as tie
 
-lock-of-requires : tie.Need-lock-of-requires
-lock-of-requires c κs = search rules
+lock_of-requires : tie.Need-lock_of-requires
+lock_of-requires c κs = search rules
 
-less-requires : tie.Need-less-requires
-less-requires c κs = search rules
+less-left-requires : tie.Need-less-left-requires
+less-left-requires c κs = search rules
 
-add-t7 : tie.Need-overflow-add-t7
-add-t7 c = search rules
+overflow_add-k : tie.Need-overflow_add-k
+overflow_add-k c = search rules
 
-add-t8 : tie.Need-overflow-add-t8
-add-t8 c =
+overflow_add-k-2 : tie.Need-overflow_add-k-2
+overflow_add-k-2 c =
     let s = c.before.before.before.before in
     omega (
       arith,
-      c.before.before.less.ensures,
-      c.before.before.before.lock-of.ensures,
+      c.before.before.less-left.ensures,
+      c.before.before.before.lock_of.ensures,
       lock_small s.args.u s.args.s s.requires.1.1,
       s.requires.1.0,
       s.requires.0.hours_le,
@@ -32,5 +32,5 @@ least-requires c κs = search rules
 returns : tie.Need-returns
 returns c = search rules
 
-pub end-of-spec : {M : Type 1} → statement M
-end-of-spec = tie.close (tie.spec lock-of-requires less-requires add-t7 add-t8 least-requires returns)
+pub end_of_spec : {M : Type 1} → statement M
+end_of_spec = tie.close (tie.spec lock_of-requires less-left-requires overflow_add-k overflow_add-k-2 least-requires returns)

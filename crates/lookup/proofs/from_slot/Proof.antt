@@ -6,42 +6,42 @@ use Rattle.lookup.proofs.AheadLaws.{ahead_slot}
 use Rattle.lookup.proofs.from_slot.Statement.{statement}
 use Rattle.lookup.proofs.from_slot.Tie as tie
 
-cells-of-requires : tie.Need-cells-of-requires
-cells-of-requires c κs = search rules
+cells_of-requires : tie.Need-cells_of-requires
+cells_of-requires c κs = search rules
 
-add-mid : tie.Need-overflow-add-mid
-add-mid c = search rules
+overflow_add-mid : tie.Need-overflow_add-mid
+overflow_add-mid c = search rules
 
-add-end : tie.Need-overflow-add-end
-add-end c = search rules
+overflow_add-end : tie.Need-overflow_add-end
+overflow_add-end c = search rules
 
-mul-choose : tie.Need-overflow-mul-choose
-mul-choose c = search rules
+offset_bounds-work-off : tie.Need-offset_bounds-work-off
+offset_bounds-work-off c = search rules
 
-sub-choose : tie.Need-overflow-sub-choose
-sub-choose c = search rules
+slice_bounds-choose-count : tie.Need-slice_bounds-choose-count
+slice_bounds-choose-count c = search rules
 
-part-choose-start : tie.Need-slice-bounds-choose-start
-part-choose-start c = search rules
+slice_bounds-choose-start : tie.Need-slice_bounds-choose-start
+slice_bounds-choose-start c = search rules
 
-part-choose-end : tie.Need-slice-bounds-choose-end
-part-choose-end c = search rules
+slice_bounds-choose-end : tie.Need-slice_bounds-choose-end
+slice_bounds-choose-end c = search rules
 
-mul-choose-2 : tie.Need-overflow-mul-choose-2
-mul-choose-2 c = search rules
+offset_bounds-work-mid : tie.Need-offset_bounds-work-mid
+offset_bounds-work-mid c = search rules
 
-sub-choose-2 : tie.Need-overflow-sub-choose-2
-sub-choose-2 c = search rules
+slice_bounds-choose-count-2 : tie.Need-slice_bounds-choose-count-2
+slice_bounds-choose-count-2 c = search rules
 
-part-choose-start-2 : tie.Need-slice-bounds-choose-start-2
-part-choose-start-2 c = search rules
+slice_bounds-choose-start-2 : tie.Need-slice_bounds-choose-start-2
+slice_bounds-choose-start-2 c = search rules
 
-part-choose-end-2 : tie.Need-slice-bounds-choose-end-2
-part-choose-end-2 c = search rules
+slice_bounds-choose-end-2 : tie.Need-slice_bounds-choose-end-2
+slice_bounds-choose-end-2 c = search rules
 
 choose-requires : tie.Need-choose-requires
 choose-requires c κs =
-    let n = c.before.before.Cells-of.ensures in
+    let n = c.before.before.cells_of.ensures in
     let s = c.before.before.before in
     let q = s.requires.1.1 in
     let (w, z, k, e) = q.1 in (
@@ -63,14 +63,14 @@ choose-requires c κs =
 
 returns : tie.Need-returns
 returns c =
-    let n = c.before.before.before.Cells-of.ensures in
+    let n = c.before.before.before.cells_of.ensures in
     let s = c.before.before.before.before in
     let q = s.requires.1.1.0 in
     λ w z k e. c.choose.ensures w
     (ahead_slot s.args.u s.requires.0 w z s.args.off s.args.work.now _ _ _ q.1 (omega arith) refl
     (omega (arith, q.2)) k) e
 
-pub from-slot-spec : {M : Type 1} → statement M
-from-slot-spec =
-    tie.close (tie.spec cells-of-requires add-mid add-end mul-choose sub-choose part-choose-start part-choose-end
-    mul-choose-2 sub-choose-2 part-choose-start-2 part-choose-end-2 choose-requires returns)
+pub from_slot_spec : {M : Type 1} → statement M
+from_slot_spec =
+    tie.close (tie.spec cells_of-requires overflow_add-mid overflow_add-end offset_bounds-work-off slice_bounds-choose-count slice_bounds-choose-start slice_bounds-choose-end
+    offset_bounds-work-mid slice_bounds-choose-count-2 slice_bounds-choose-start-2 slice_bounds-choose-end-2 choose-requires returns)

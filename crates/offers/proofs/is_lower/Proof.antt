@@ -7,61 +7,61 @@ use Rattle.offers.proofs.OrderLaws.{Alike, alike_start, alike_differ, alike_step
 use Rattle.offers.proofs.is_lower.Statement.{statement}
 use Rattle.offers.proofs.is_lower.Tie as tie
 
-abbrev invariant-loop : tie.invariant-loop
-invariant-loop first second k₀ k = Alike first second k
+abbrev invariant-loop-k : tie.invariant-loop-k
+invariant-loop-k first second k₀ k = Alike first second k
 
-abbrev decreases-loop : tie.decreases-loop
-decreases-loop first second k₀ k = length first - k
+abbrev decreases-loop-k : tie.decreases-loop-k
+decreases-loop-k first second k₀ k = length first - k
 
-loop-holds : tie.Need-loop-init invariant-loop decreases-loop
-loop-holds c = alike_start (search rules)
+loop-k-init : tie.Need-loop-k-init invariant-loop-k decreases-loop-k
+loop-k-init c = alike_start (search rules)
 
-mul-t6 : tie.Need-overflow-mul-t6 invariant-loop decreases-loop
-mul-t6 c = search rules
+offset_bounds-first-k : tie.Need-offset_bounds-first-k invariant-loop-k decreases-loop-k
+offset_bounds-first-k c = search rules
 
-shared-slice-read-t9 : tie.Need-shared-slice-read-t9 invariant-loop decreases-loop
-shared-slice-read-t9 c = search rules
+bounds-first-k : tie.Need-bounds-first-k invariant-loop-k decreases-loop-k
+bounds-first-k c = search rules
 
-mul-t6-2 : tie.Need-overflow-mul-t6-2 invariant-loop decreases-loop
-mul-t6-2 c = search rules
+offset_bounds-second-k : tie.Need-offset_bounds-second-k invariant-loop-k decreases-loop-k
+offset_bounds-second-k c = search rules
 
-shared-slice-read-t9-2 : tie.Need-shared-slice-read-t9-2 invariant-loop decreases-loop
-shared-slice-read-t9-2 c = search rules
+bounds-second-k : tie.Need-bounds-second-k invariant-loop-k decreases-loop-k
+bounds-second-k c = search rules
 
-returns : tie.Need-returns invariant-loop decreases-loop
-returns c =
+returns-then-own-other : tie.Need-returns-then-own-other invariant-loop-k decreases-loop-k
+returns-then-own-other c =
     let d = c.before.before.before.before in
-    let loop = d.before.before.before.before.loop in
-    sym (alike_differ loop.invariant (search rules) c.before.before.if1.true)
+    let loop = d.before.before.before.before.loop-k in
+    sym (alike_differ loop.invariant (search rules) c.before.before.if-own-other.true)
 
-add-k : tie.Need-overflow-add-k invariant-loop decreases-loop
-add-k c = search rules
+overflow_add-k : tie.Need-overflow_add-k invariant-loop-k decreases-loop-k
+overflow_add-k c = search rules
 
-loop-less : tie.Need-loop-smaller invariant-loop decreases-loop
-loop-less c = search rules
+loop-k-smaller : tie.Need-loop-k-smaller invariant-loop-k decreases-loop-k
+loop-k-smaller c = search rules
 
-loop-again : tie.Need-loop-preserved invariant-loop decreases-loop
-loop-again c =
+loop-k-preserved : tie.Need-loop-k-preserved invariant-loop-k decreases-loop-k
+loop-k-preserved c =
     let d = c.before.before in
-    let loop = d.before.before.before.before.loop in
-    alike_step loop.invariant (search rules) c.if1.false
+    let loop = d.before.before.before.before.loop-k in
+    alike_step loop.invariant (search rules) c.if-own-other.false
 
-returns-2 : tie.Need-returns-2 invariant-loop decreases-loop
-returns-2 c = sym (alike_end c.before.loop.invariant (search rules))
+returns : tie.Need-returns invariant-loop-k decreases-loop-k
+returns c = sym (alike_end c.before.loop-k.invariant (search rules))
 
-pub is-lower-spec : {M : Type 1} → statement M
-is-lower-spec =
+pub is_lower_spec : {M : Type 1} → statement M
+is_lower_spec =
     tie.close
     (tie.spec
-    invariant-loop
-    decreases-loop
-    loop-holds
-    mul-t6
-    shared-slice-read-t9
-    mul-t6-2
-    shared-slice-read-t9-2
-    returns
-    add-k
-    loop-less
-    loop-again
-    returns-2)
+    invariant-loop-k
+    decreases-loop-k
+    loop-k-init
+    offset_bounds-first-k
+    bounds-first-k
+    offset_bounds-second-k
+    bounds-second-k
+    returns-then-own-other
+    overflow_add-k
+    loop-k-smaller
+    loop-k-preserved
+    returns)

@@ -14,16 +14,16 @@ far s =
     let h : s.args.hours.0 ≤ most_hours = omega (arith, s.requires.1.1, s.requires.0.hours_le) in
     mul-le-mul h s.requires.0.rampup_le
 
-mul-least : tie.Need-overflow-mul-least
-mul-least c = omega (arith, far c.before.before)
+overflow_mul-hours : tie.Need-overflow_mul-hours
+overflow_mul-hours c = omega (arith, far c.before.before)
 
-add-least : tie.Need-overflow-add-least
-add-least c = let s = c.before.before in omega (arith, far s, s.requires.1.0, s.requires.0.capacity_le)
+overflow_add-m : tie.Need-overflow_add-m
+overflow_add-m c = let s = c.before.before in omega (arith, far s, s.requires.1.0, s.requires.0.capacity_le)
 
 returns : tie.Need-returns
-returns c = c.least.ensures ∙ rw c.before.Cells-of.ensures refl
+returns c = c.least.ensures ∙ rw c.before.cells_of.ensures refl
 
-pub reached-spec : {M : Type 1} → statement M
-reached-spec =
-    tie.close (tie.spec (λ c. search rules) (λ c. search rules) mul-least add-least (λ c κs. search rules)
+pub reached_spec : {M : Type 1} → statement M
+reached_spec =
+    tie.close (tie.spec (λ c. search rules) (λ c. search rules) overflow_mul-hours overflow_add-m (λ c κs. search rules)
     (λ c κs. search rules) returns)

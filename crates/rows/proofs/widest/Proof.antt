@@ -15,18 +15,18 @@ window-requires c κs =
     let s = c.before.before.before.before.before in
     (omega (arith, s.requires.1.few), s.requires.1)
 
-returns : tie.Need-returns
-returns c = swept_of_windowed _ c.before.before.before.before.if1.true c.before.window.ensures
+returns-then-costs-eq0 : tie.Need-returns-then-costs-eq0
+returns-then-costs-eq0 c = swept_of_windowed _ c.before.before.before.before.if-costs-eq0.true c.before.window.ensures
 
-mul-base : tie.Need-overflow-mul-base
-mul-base c = search rules
+overflow_mul-base : tie.Need-overflow_mul-base
+overflow_mul-base c = search rules
 
 sweep-requires : tie.Need-sweep-requires
 sweep-requires c κs =
     let s = c.before.before.before.before.before in
     let (fit, table, few) = s.requires.0 in
     let long : most_energy < length s.args.costs.now =
-    ⊎_elim (λ e. absurd (c.before.before.if1.false e)) (λ h. h) table.long in (
+    ⊎_elim (λ e. absurd (c.before.before.if-costs-eq0.false e)) (λ h. h) table.long in (
       s.requires.1,
       (
         record { long = long; cost_le = table.cost_le; bent = table.bent },
@@ -34,10 +34,10 @@ sweep-requires c κs =
       ),
     )
 
-returns-2 : tie.Need-returns-2
-returns-2 c = c.sweep.ensures
+returns : tie.Need-returns
+returns c = c.sweep.ensures
 
-pub widest-spec : {M : Type 1} → statement M
-widest-spec =
-    tie.close (tie.spec (λ c. search rules) (λ c. search rules) (λ c. search rules) window-requires returns
-    (λ c. search rules) mul-base sweep-requires returns-2)
+pub widest_spec : {M : Type 1} → statement M
+widest_spec =
+    tie.close (tie.spec (λ c. search rules) (λ c. search rules) (λ c. search rules) window-requires returns-then-costs-eq0
+    (λ c. search rules) overflow_mul-base sweep-requires returns)

@@ -10,58 +10,58 @@ use Rattle.window.proofs.RowLaws.{written_start, written_up}
 use Rattle.slots.proofs.copy_in.Statement.{statement}
 use Rattle.slots.proofs.copy_in.Tie as tie
 
-abbrev invariant-loop : tie.invariant-loop
-invariant-loop work off to₀ n i₀ to i = (i ≤ n) × Written to₀ to 0 i (λ h. get_or work (off + h) (pos 0))
+abbrev invariant-loop-i : tie.invariant-loop-i
+invariant-loop-i work off to₀ n i₀ to i = (i ≤ n) × Written to₀ to 0 i (λ h. get_or work (off + h) (pos 0))
 
-abbrev decreases-loop : tie.decreases-loop
-decreases-loop work off to₀ n i₀ to i = n - i
+abbrev decreases-loop-i : tie.decreases-loop-i
+decreases-loop-i work off to₀ n i₀ to i = n - i
 
-loop-holds : tie.Need-loop-init invariant-loop decreases-loop
-loop-holds c = (omega arith, written_start _ _ _ _ (omega arith))
+loop-i-init : tie.Need-loop-i-init invariant-loop-i decreases-loop-i
+loop-i-init c = (omega arith, written_start _ _ _ _ (omega arith))
 
-add-value-at : tie.Need-overflow-add-value-at invariant-loop decreases-loop
-add-value-at c = omega arith
+overflow_add-off : tie.Need-overflow_add-off invariant-loop-i decreases-loop-i
+overflow_add-off c = omega arith
 
-value-at-requires : tie.Need-value-at-requires invariant-loop decreases-loop
-value-at-requires c κs = search rules
+value_at-v-requires : tie.Need-value_at-v-requires invariant-loop-i decreases-loop-i
+value_at-v-requires c κs = search rules
 
-store-requires : tie.Need-store-requires invariant-loop decreases-loop
-store-requires c κs = omega (arith, c.before.before.before.loop.invariant.1.long)
+store-requires : tie.Need-store-requires invariant-loop-i decreases-loop-i
+store-requires c κs = omega (arith, c.before.before.before.loop-i.invariant.1.long)
 
-add-i : tie.Need-overflow-add-i invariant-loop decreases-loop
-add-i c = omega arith
+overflow_add-i : tie.Need-overflow_add-i invariant-loop-i decreases-loop-i
+overflow_add-i c = omega arith
 
-loop-less : tie.Need-loop-smaller invariant-loop decreases-loop
-loop-less c = omega arith
+loop-i-smaller : tie.Need-loop-i-smaller invariant-loop-i decreases-loop-i
+loop-i-smaller c = omega arith
 
-loop-again : tie.Need-loop-preserved invariant-loop decreases-loop
-loop-again c =
-    let l = c.before.before.before.before.before.loop in (
+loop-i-preserved : tie.Need-loop-i-preserved invariant-loop-i decreases-loop-i
+loop-i-preserved c =
+    let l = c.before.before.before.before.before.loop-i in (
       omega arith,
       rw c.before.store.ensures (written_up _ l.invariant.1
-          (omega arith) (omega arith) c.before.before.before.value-at.ensures),
+          (omega arith) (omega arith) c.before.before.before.value_at-v.ensures),
     )
 
-same_length : tie.Need-same-length invariant-loop decreases-loop
-same_length c = c.before.loop.invariant.1.long
+shape_of-to : tie.Need-shape_of-to invariant-loop-i decreases-loop-i
+shape_of-to c = c.before.loop-i.invariant.1.long
 
-returns : tie.Need-returns invariant-loop decreases-loop
+returns : tie.Need-returns invariant-loop-i decreases-loop-i
 returns c =
-    let e : c.before.loop.i ≡ c.before.before.args.n = omega arith in
-    rw e at c.before.loop.invariant.1
+    let e : c.before.loop-i.i ≡ c.before.before.args.n = omega arith in
+    rw e at c.before.loop-i.invariant.1
 
 pub copy_in_spec : {M : Type 1} → statement M
 copy_in_spec =
     tie.close
     (tie.spec
-    invariant-loop
-    decreases-loop
-    loop-holds
-    add-value-at
-    value-at-requires
+    invariant-loop-i
+    decreases-loop-i
+    loop-i-init
+    overflow_add-off
+    value_at-v-requires
     store-requires
-    add-i
-    loop-less
-    loop-again
-    same_length
+    overflow_add-i
+    loop-i-smaller
+    loop-i-preserved
+    shape_of-to
     returns)

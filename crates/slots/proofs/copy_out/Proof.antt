@@ -11,59 +11,59 @@ use Rattle.laws.proofs.PlacedLaws.{part_start, part_up}
 use Rattle.slots.proofs.copy_out.Statement.{statement}
 use Rattle.slots.proofs.copy_out.Tie as tie
 
-abbrev invariant-loop : tie.invariant-loop
-invariant-loop work₀ off from n i₀ work i = (i ≤ n) × Part (pos 0) work₀ work off 0 i (λ h. get_or from h (pos 0))
+abbrev invariant-loop-i : tie.invariant-loop-i
+invariant-loop-i work₀ off from n i₀ work i = (i ≤ n) × Part (pos 0) work₀ work off 0 i (λ h. get_or from h (pos 0))
 
-abbrev decreases-loop : tie.decreases-loop
-decreases-loop work₀ off from n i₀ work i = n - i
+abbrev decreases-loop-i : tie.decreases-loop-i
+decreases-loop-i work₀ off from n i₀ work i = n - i
 
-loop-holds : tie.Need-loop-init invariant-loop decreases-loop
-loop-holds c = (omega arith, part_start (pos 0) _ _ _ _ _ (omega arith))
+loop-i-init : tie.Need-loop-i-init invariant-loop-i decreases-loop-i
+loop-i-init c = (omega arith, part_start (pos 0) _ _ _ _ _ (omega arith))
 
-value-at-requires : tie.Need-value-at-requires invariant-loop decreases-loop
-value-at-requires c κs = search rules
+value_at-v-requires : tie.Need-value_at-v-requires invariant-loop-i decreases-loop-i
+value_at-v-requires c κs = search rules
 
-add-store : tie.Need-overflow-add-store invariant-loop decreases-loop
-add-store c = omega arith
+overflow_add-off : tie.Need-overflow_add-off invariant-loop-i decreases-loop-i
+overflow_add-off c = omega arith
 
-store-requires : tie.Need-store-requires invariant-loop decreases-loop
-store-requires c κs = omega (arith, c.before.before.before.loop.invariant.1.long)
+store-requires : tie.Need-store-requires invariant-loop-i decreases-loop-i
+store-requires c κs = omega (arith, c.before.before.before.loop-i.invariant.1.long)
 
-add-i : tie.Need-overflow-add-i invariant-loop decreases-loop
-add-i c = omega arith
+overflow_add-i : tie.Need-overflow_add-i invariant-loop-i decreases-loop-i
+overflow_add-i c = omega arith
 
-loop-less : tie.Need-loop-smaller invariant-loop decreases-loop
-loop-less c = omega arith
+loop-i-smaller : tie.Need-loop-i-smaller invariant-loop-i decreases-loop-i
+loop-i-smaller c = omega arith
 
-loop-again : tie.Need-loop-preserved invariant-loop decreases-loop
-loop-again c =
-    let l = c.before.before.before.before.before.loop in (
+loop-i-preserved : tie.Need-loop-i-preserved invariant-loop-i decreases-loop-i
+loop-i-preserved c =
+    let l = c.before.before.before.before.before.loop-i in (
       omega arith,
       rw c.before.store.ensures (part_up (pos 0) _
           l.invariant.1 (omega arith) (omega arith)
-          c.before.before.before.value-at.ensures),
+          c.before.before.before.value_at-v.ensures),
     )
 
-same_length : tie.Need-same-length invariant-loop decreases-loop
-same_length c = c.before.loop.invariant.1.long
+shape_of-work : tie.Need-shape_of-work invariant-loop-i decreases-loop-i
+shape_of-work c = c.before.loop-i.invariant.1.long
 
-returns : tie.Need-returns invariant-loop decreases-loop
+returns : tie.Need-returns invariant-loop-i decreases-loop-i
 returns c =
-    let e : c.before.loop.i ≡ c.before.before.args.n = omega arith in
-    rw e at c.before.loop.invariant.1
+    let e : c.before.loop-i.i ≡ c.before.before.args.n = omega arith in
+    rw e at c.before.loop-i.invariant.1
 
-pub copy-out-spec : {M : Type 1} → statement M
-copy-out-spec =
+pub copy_out_spec : {M : Type 1} → statement M
+copy_out_spec =
     tie.close
     (tie.spec
-    invariant-loop
-    decreases-loop
-    loop-holds
-    value-at-requires
-    add-store
+    invariant-loop-i
+    decreases-loop-i
+    loop-i-init
+    value_at-v-requires
+    overflow_add-off
     store-requires
-    add-i
-    loop-less
-    loop-again
-    same_length
+    overflow_add-i
+    loop-i-smaller
+    loop-i-preserved
+    shape_of-work
     returns)

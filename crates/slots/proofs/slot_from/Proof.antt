@@ -8,40 +8,40 @@ use Rattle.slots.proofs.Slots.{slot_near}
 use Rattle.slots.proofs.slot_from.Statement.{statement}
 use Rattle.slots.proofs.slot_from.Tie as tie
 
-add_whole : tie.Need-overflow-add-whole
-add_whole c = search rules
+overflow_add-k : tie.Need-overflow_add-k
+overflow_add-k c = search rules
 
-sub-whole : tie.Need-overflow-sub-whole
-sub-whole c = search rules
+overflow_sub-k : tie.Need-overflow_sub-k
+overflow_sub-k c = search rules
 
-cast-whole : tie.Need-overflow-cast-whole
-cast-whole c = search rules
+overflow_cast-k : tie.Need-overflow_cast-k
+overflow_cast-k c = search rules
 
-cast-whole-2 : tie.Need-overflow-cast-whole-2
-cast-whole-2 c = search rules
+overflow_cast-l : tie.Need-overflow_cast-l
+overflow_cast-l c = search rules
 
-whole-requires : tie.Need-whole-requires
-whole-requires c κs = search rules
+whole-number-requires : tie.Need-whole-number-requires
+whole-number-requires c κs = search rules
 
 -- the call, seen from after the slot is counted
-abbrev start : tie.After-whole → tie.Start
+abbrev start : tie.After-whole-number → tie.Start
 start c = c.before.before.before.before
 
-cast-t4 : tie.Need-overflow-cast-t4
-cast-t4 c =
+overflow_cast-result : tie.Need-overflow_cast-result
+overflow_cast-result c =
     let s = start c in
     let few = div-le_self (s.args.k.0 + s.args.l.0 - 1) s.args.l.0 in
-    omega (arith, c.whole.ensures, few, s.pre.1)
+    omega (arith, c.whole-number.ensures, few, s.requires.1)
 
-mul-t5 : tie.Need-overflow-mul-t5
-mul-t5 c =
+overflow_mul-result : tie.Need-overflow_mul-result
+overflow_mul-result c =
     let s = start c.before in
-    let near = slot_near s.args.l.0 s.args.k.0 s.pre.0 in
-    omega (arith, near, ap (λ n. n * s.args.l.0) c.before.whole.ensures, s.pre.1)
+    let near = slot_near s.args.l.0 s.args.k.0 s.requires.0 in
+    omega (arith, near, ap (λ n. n * s.args.l.0) c.before.whole-number.ensures, s.requires.1)
 
 returns : tie.Need-returns
-returns c = (c.before.whole.ensures, refl)
+returns c = (c.before.whole-number.ensures, refl)
 
-pub slot-from-spec : {M : Type 1} → statement M
-slot-from-spec =
-    tie.close (tie.spec add_whole sub-whole cast-whole cast-whole-2 whole-requires cast-t4 mul-t5 returns)
+pub slot_from_spec : {M : Type 1} → statement M
+slot_from_spec =
+    tie.close (tie.spec overflow_add-k overflow_sub-k overflow_cast-k overflow_cast-l whole-number-requires overflow_cast-result overflow_mul-result returns)

@@ -13,153 +13,153 @@ use Rattle.slots.proofs.SpannedLaws.{spanned_start, spanned_from, spanned_step}
 use Rattle.spans.proofs.fill.Statement.{statement}
 use Rattle.spans.proofs.fill.Tie as tie
 
-abbrev invariant-loop : tie.invariant-loop
-invariant-loop u charges margins orders costs k n entries work kept₀ to row₀ side₀ h₀ kept row side h =
+abbrev invariant-loop-h : tie.invariant-loop-h
+invariant-loop-h u charges margins orders costs k n entries work kept₀ to row₀ side₀ h₀ kept row side h =
     (k.0 ≤ h.0) × (h.0 ≤ to.0) × Layer u (worth u (day_of margins orders charges costs) h.0) row side
     × Spanned u (day_of margins orders charges costs) h.0 to.0 kept
 
-abbrev decreases-loop : tie.decreases-loop
-decreases-loop u charges margins orders costs k n entries work kept₀ to row₀ side₀ h₀ kept row side h = h.0
+abbrev decreases-loop-h : tie.decreases-loop-h
+decreases-loop-h u charges margins orders costs k n entries work kept₀ to row₀ side₀ h₀ kept row side h = h.0
 
 -- the places that the proof goes back to: the call, the hour before which the layers end, the loop's head
-abbrev start : tie.After-least invariant-loop decreases-loop → tie.Start invariant-loop decreases-loop
+abbrev start : tie.After-least-to invariant-loop-h decreases-loop-h → tie.Start invariant-loop-h decreases-loop-h
 start c = c.before.before.before
 
-abbrev bounded : tie.At-loop invariant-loop decreases-loop → tie.After-least invariant-loop decreases-loop
+abbrev bounded : tie.At-loop-h invariant-loop-h decreases-loop-h → tie.After-least-to invariant-loop-h decreases-loop-h
 bounded c = c.before.before.before.before
 
-abbrev head : tie.Then1 invariant-loop decreases-loop → tie.At-loop invariant-loop decreases-loop
+abbrev head : tie.In-loop-h invariant-loop-h decreases-loop-h → tie.At-loop-h invariant-loop-h decreases-loop-h
 head t = t.before.before.before
 
-abbrev called : tie.Then1 invariant-loop decreases-loop → tie.Start invariant-loop decreases-loop
+abbrev called : tie.In-loop-h invariant-loop-h decreases-loop-h → tie.Start invariant-loop-h decreases-loop-h
 called t = start (bounded (head t))
 
-abbrev day : tie.Start invariant-loop decreases-loop → ℕ → Tariff
+abbrev day : tie.Start invariant-loop-h decreases-loop-h → ℕ → Tariff
 day s = day_of s.args.margins.now s.args.orders.now s.args.charges s.args.costs.now
 
 -- the hour before which the layers end
-limit : (c : tie.After-least invariant-loop decreases-loop)
-    → c.least.result.0 ≡ min (start c).args.b.0 ((start c).args.k.0 + most_places)
-limit c = c.least.ensures
+limit : (c : tie.After-least-to invariant-loop-h decreases-loop-h)
+    → c.least-to.result.0 ≡ min (start c).args.b.0 ((start c).args.k.0 + most_places)
+limit c = c.least-to.ensures
 
 -- the cells have room in a place
-wide : (s : tie.Start invariant-loop decreases-loop) → cells_of s.args.u ≤ row_length
+wide : (s : tie.Start invariant-loop-h decreases-loop-h) → cells_of s.args.u ≤ row_length
 wide s = let f = s.requires.0 in omega (arith, f.capacity_le, f.minimum_pos)
 
 -- the hour that a turn comes to
-up : (t : tie.Then1 invariant-loop decreases-loop) → (head t).loop.h.0 ≡ suc ((head t).loop.h.0 - 1)
-up t = omega (arith, t.if1.true)
+up : (t : tie.In-loop-h invariant-loop-h decreases-loop-h) → (head t).loop-h.h.0 ≡ suc ((head t).loop-h.h.0 - 1)
+up t = omega (arith, t.loop-h-test.true)
 
-cast-t18 : tie.Need-overflow-cast-t18 invariant-loop decreases-loop
-cast-t18 c = search rules
+overflow_cast-least : tie.Need-overflow_cast-least invariant-loop-h decreases-loop-h
+overflow_cast-least c = search rules
 
-add-t19 : tie.Need-overflow-add-t19 invariant-loop decreases-loop
-add-t19 c = search rules
+overflow_add-k : tie.Need-overflow_add-k invariant-loop-h decreases-loop-h
+overflow_add-k c = search rules
 
-least-requires : tie.Need-least-requires invariant-loop decreases-loop
-least-requires c κs = search rules
+least-to-requires : tie.Need-least-to-requires invariant-loop-h decreases-loop-h
+least-to-requires c κs = search rules
 
-layer-at-requires : tie.Need-layer-at-requires invariant-loop decreases-loop
-layer-at-requires c κs =
+layer_at-requires : tie.Need-layer_at-requires invariant-loop-h decreases-loop-h
+layer_at-requires c κs =
     let d = c.before.before in
     let s = start d in
-    let q = s.pre.1.1 in
-    (s.pre.0, (s.pre.1.0, ((omega (arith, limit d, q.0.1), q.0.2), (q.1.0, (wide s, refl)))))
+    let q = s.requires.1.1 in
+    (s.requires.0, (s.requires.1.0, ((omega (arith, limit d, q.0.1), q.0.2), (q.1.0, (wide s, refl)))))
 
-loop-holds : tie.Need-loop-init invariant-loop decreases-loop
-loop-holds c =
+loop-h-init : tie.Need-loop-h-init invariant-loop-h decreases-loop-h
+loop-h-init c =
     let d = c.before.before.before in
     let s = start d in
-    let q = s.pre.1.1 in (
+    let q = s.requires.1.1 in (
       omega (arith, limit d, q.0.0),
       omega arith,
       c.layer_at.ensures,
       spanned_start s.args.u (day s) _ q.1.1,
     )
 
-sub_at : tie.Need-overflow-sub-at invariant-loop decreases-loop
-sub_at c = omega (arith, c.before.if1.true)
+overflow_sub-h : tie.Need-overflow_sub-h invariant-loop-h decreases-loop-h
+overflow_sub-h c = omega (arith, c.before.loop-h-test.true)
 
-step-hour-requires : tie.Need-step-hour-requires invariant-loop decreases-loop
-step-hour-requires c κs =
+step_hour-requires : tie.Need-step_hour-requires invariant-loop-h decreases-loop-h
+step_hour-requires c κs =
     let t = c.before.before.before in
-    let l = (head t).loop in
+    let l = (head t).loop-h in
     let s = called t in
     let u = s.args.u in
-    let q = s.pre.1.1 in (
-      s.pre.0,
+    let q = s.requires.1.1 in (
+      s.requires.0,
       (
-        s.pre.1.0,
+        s.requires.1.0,
         (
-          omega (arith, t.if1.true, l.inv.1, limit (bounded (head t)), q.0.1),
-          layer_at u (day s) (up t) l.inv.2,
+          omega (arith, t.loop-h-test.true, l.invariant.1, limit (bounded (head t)), q.0.1),
+          layer_at u (day s) (up t) l.invariant.2,
           entries_from u (day s) _ (omega arith) q.1.0.0,
         ),
       ),
     )
 
-sub-at-2 : tie.Need-overflow-sub-at-2 invariant-loop decreases-loop
-sub-at-2 c =
+overflow_sub-at : tie.Need-overflow_sub-at invariant-loop-h decreases-loop-h
+overflow_sub-at c =
     let t = c.before.before.before.before.before.before in
-    omega (arith, t.if1.true, (head t).loop.invariant.1)
+    omega (arith, t.loop-h-test.true, (head t).loop-h.invariant.1)
 
-sub-at-3 : tie.Need-overflow-sub-at-3 invariant-loop decreases-loop
-sub-at-3 c =
+overflow_sub-at-in-loop-h : tie.Need-overflow_sub-at-in-loop-h invariant-loop-h decreases-loop-h
+overflow_sub-at-in-loop-h c =
     let t = c.before.before.before.before.before.before in
-    omega (arith, t.if1.true, (head t).loop.invariant.1)
+    omega (arith, t.loop-h-test.true, (head t).loop-h.invariant.1)
 
-cast-at : tie.Need-overflow-cast-at invariant-loop decreases-loop
-cast-at c = search rules
+overflow_cast-at : tie.Need-overflow_cast-at invariant-loop-h decreases-loop-h
+overflow_cast-at c = search rules
 
-mul-save-layer : tie.Need-overflow-mul-save-layer invariant-loop decreases-loop
-mul-save-layer c =
+overflow_mul-at : tie.Need-overflow_mul-at invariant-loop-h decreases-loop-h
+overflow_mul-at c =
     let t = c.before.before.before.before.before.before in
-    let l = (head t).loop in
-    omega (arith, t.if1.true, l.inv.0, l.inv.1, limit (bounded (head t)))
+    let l = (head t).loop-h in
+    omega (arith, t.loop-h-test.true, l.invariant.0, l.invariant.1, limit (bounded (head t)))
 
-save-layer-requires : tie.Need-save-layer-requires invariant-loop decreases-loop
-save-layer-requires c κs =
+save_layer-requires : tie.Need-save_layer-requires invariant-loop-h decreases-loop-h
+save_layer-requires c κs =
     let made = c.before.before.before.before.before in
     let t = made.before.before.before.before in
-    let l = (head t).loop in
+    let l = (head t).loop-h in
     let s = called t in
-    let r = made.step-hour.ensures in (
-      s.pre.0,
+    let r = made.step_hour.ensures in (
+      s.requires.0,
       (
-        omega (arith, t.if1.true, l.inv.0, l.inv.1, limit (bounded (head t)), l.inv.3.long, wide s),
+        omega (arith, t.loop-h-test.true, l.invariant.0, l.invariant.1, limit (bounded (head t)), l.invariant.3.long, wide s),
         (r.row.long, r.side.long),
       ),
     )
 
-loop-less : tie.Need-loop-smaller invariant-loop decreases-loop
-loop-less c =
+loop-h-smaller : tie.Need-loop-h-smaller invariant-loop-h decreases-loop-h
+loop-h-smaller c =
     let t = c.before.before.before.before.before.before.before.before.before.before in
-    omega (arith, t.if1.true)
+    omega (arith, t.loop-h-test.true)
 
-loop-again : tie.Need-loop-preserved invariant-loop decreases-loop
-loop-again c =
+loop-h-preserved : tie.Need-loop-h-preserved invariant-loop-h decreases-loop-h
+loop-h-preserved c =
     let made = c.before.before.before.before.before.before in
     let t = made.before.before.before.before in
-    let l = (head t).loop in
+    let l = (head t).loop-h in
     let s = called t in
     let u = s.args.u in
     let h : ℕ = l.h.0 - 1 in (
-      omega (arith, t.if1.true),
-      omega (arith, l.inv.1),
-      made.step-hour.ensures,
-      spanned_step u (day s) h _ (omega (arith, t.if1.true, l.inv.1)) (wide s)
-          (c.save-layer.ensures _ made.step-hour.ensures)
-          (spanned_from u (day s) (suc h) (omega (arith, up t)) l.inv.3),
+      omega (arith, t.loop-h-test.true),
+      omega (arith, l.invariant.1),
+      made.step_hour.ensures,
+      spanned_step u (day s) h _ (omega (arith, t.loop-h-test.true, l.invariant.1)) (wide s)
+          (c.save_layer.ensures _ made.step_hour.ensures)
+          (spanned_from u (day s) (suc h) (omega (arith, up t)) l.invariant.3),
     )
 
-returns : tie.Need-returns invariant-loop decreases-loop
+returns : tie.Need-returns invariant-loop-h decreases-loop-h
 returns c =
     let h = c.before.before.before in
     let d = bounded h in
     let s = start d in
-    (limit d, spanned_from s.args.u (day s) s.args.k.0 (omega (arith, c.if1.false)) h.loop.invariant.3)
+    (limit d, spanned_from s.args.u (day s) s.args.k.0 (omega (arith, c.loop-h-test.false)) h.loop-h.invariant.3)
 
 pub fill_spec : {M : Type 1} → statement M
 fill_spec =
-    tie.close (tie.spec invariant-loop decreases-loop cast-t18 add-t19 least-requires layer-at-requires loop-holds sub_at
-    step-hour-requires sub-at-2 sub-at-3 cast-at mul-save-layer save-layer-requires loop-less loop-again returns)
+    tie.close (tie.spec invariant-loop-h decreases-loop-h overflow_cast-least overflow_add-k least-to-requires layer_at-requires loop-h-init overflow_sub-h
+    step_hour-requires overflow_sub-at overflow_sub-at-in-loop-h overflow_cast-at overflow_mul-at save_layer-requires loop-h-smaller loop-h-preserved returns)
