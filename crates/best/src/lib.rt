@@ -3,6 +3,8 @@
 // `schedule_of`; the best list is `best_day` of model's specs/Best. A case outside the limits is refused by 2 to 8 or 13,
 // memory that is too short by 10, and nothing is changed then. Beside it, the search of a case by whatever its energy
 // costs (specs/Searched), which other crates of this repository call with what it asks for.
+#![tactic(auto)]
+
 mod wipe;
 
 ghost use Rattle.std.specs.Prelude.{false, ◌≡◌, ℕ, ◌≤◌, length, drop, ℤ};

@@ -1,5 +1,7 @@
 // The best day of a case by the calendar of a year (request F-3; model's specs/Calendar): the orders of a day come from
 // two lists of windows, in place of the case's own. 14 and 15 refuse lists and day before any case is looked at.
+#![tactic(auto)]
+
 ghost use Rattle.std.specs.Prelude.{◌≡◌};
 ghost use Rattle.cases.specs.Layout.{with_arrays};
 ghost use Rattle.model.specs.Calendar.{calendar_of};

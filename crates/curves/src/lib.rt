@@ -1,6 +1,8 @@
 // The check and the search by a boiler maker's cost curve (request F-7; model's specs/Curves): the curve's table is
 // filled in lent numbers, and profit is reckoned by it. 16 refuses a curve before any case is looked at; a table of
 // less than 801 numbers is refused by 10. A refusal other than 11 leaves the table as it was.
+#![tactic(auto)]
+
 mod list;
 mod split;
 

@@ -1,6 +1,8 @@
 // The text that the program prints for an input, in lent bytes: model's specs/Printed say what `print` answers and
 // leaves. An input longer than a case may be is refused by 1 in the text itself; a text longer than the lent bytes is
 // refused by 10, and every lent byte stays.
+#![tactic(auto)]
+
 ghost use Rattle.std.specs.Prelude.{◌≡◌, ◌≤◌, length};
 ghost use Rattle.cases.specs.Limits.{most_hours, short_work};
 ghost use Rattle.cases.specs.Reads.{read_of};

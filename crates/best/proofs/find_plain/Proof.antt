@@ -19,7 +19,7 @@ find-requires c κs =
         s.requires.1,
         (
           plain_cost s.args.case,
-          rw r.rates-of.ensures
+          rw r.rates_of.ensures
               (own_pays s.args.case s.requires.0),
         ),
       ),
@@ -33,8 +33,8 @@ returns c =
     let a = s.args in
     let r = f.find.ensures in
     let e = searched_plain a.case a.work.now a.outputs.now in
-    let p : Pays rates.rates-of.result [] (plain_cost a.case) =
-    rw rates.rates-of.ensures (own_pays a.case s.requires.0) in (
+    let p : Pays rates.rates_of.result [] (plain_cost a.case) =
+    rw rates.rates_of.ensures (own_pays a.case s.requires.0) in (
       r.0 (plain_cost a.case) p ∙ ap (λ (x : Scheduling). x.answer) e,
       (
         r.1.0 (plain_cost a.case) p ∙ ap (λ (x : Scheduling). x.work) e,
@@ -42,7 +42,7 @@ returns c =
       ),
     )
 
-pub find-plain-spec : {M : Type 1} → statement M
-find-plain-spec =
+pub find_plain_spec : {M : Type 1} → statement M
+find_plain_spec =
     tie.close (tie.spec (λ c κs. search rules) (λ c. search rules) find-requires (λ c. search rules) (λ c. search rules)
     returns)

@@ -22,68 +22,68 @@ use Rattle.best.proofs.searched.Statement.{statement}
 use Rattle.best.proofs.searched.Tie as tie
 
 -- the call, seen from after the search
-abbrev start : tie.After-search-first → tie.Start
+abbrev start : tie.After-search_first-worth → tie.Start
 start c =
-    c.before.before.before.before.before.before.before.before.before.before.before.before.before.before
+    c.before.before.before.before.before.before.before.before.before.before.before.before.before.before.before.before
 
 -- what the search found, of the case's own unit, hours and opening
-module _ (c : tie.After-search-first) where
+module _ (c : tie.After-search_first-worth) where
   found : Found (unit_of (start c).args.case) (tariff_at (start c).args.case (start c).args.rates
       (start c).args.costs.now)
       (opening_of (start c).args.case) (start c).args.outputs.now
-      c.search-first.new.1.1.1.1.1.1.1.1.0 c.search-first.result.0
+      c.search_first-worth.new.outputs c.search_first-worth.result.0
   unfolding margins_of orders_of
   found =
       let orders = c.before.before.before.before.before in
       let margins = orders.before in
       let opening = margins.before.before.before.before in
       rw (
-        opening.before.before.unit-of.ensures,
-        margins.margins2.ensures,
-        orders.orders.ensures,
-        opening.before.charges-of.ensures,
-        opening.opening_of.ensures,
-      ) at c.search-first.ensures.0
+        opening.before.before.unit_of-unit.ensures,
+        margins.margins.ensures,
+        orders.orders-orders.ensures,
+        opening.before.charges_of-charges.ensures,
+        opening.opening_of-opening.ensures,
+      ) at c.search_first-worth.ensures.0
 
-unit-of-requires : tie.Need-unit-of-requires
-unit-of-requires c κs = search rules
+unit_of-unit-requires : tie.Need-unit_of-unit-requires
+unit_of-unit-requires c κs = search rules
 
-charges-of-requires : tie.Need-charges-of-requires
-charges-of-requires c κs = search rules
+charges_of-charges-requires : tie.Need-charges_of-charges-requires
+charges_of-charges-requires c κs = search rules
 
-opening-of-requires : tie.Need-opening-of-requires
-opening-of-requires c κs = search rules
+opening_of-opening-requires : tie.Need-opening_of-opening-requires
+opening_of-opening-requires c κs = search rules
 
 margins-requires : tie.Need-margins-requires
 margins-requires c κs =
     let s = c.before.before.before.before.before.before.before in
     ((limits_of_refusal_of _ s.requires.0.0).hours_le, refl)
 
-orders-requires : tie.Need-orders-requires
-orders-requires c κs =
+orders-orders-requires : tie.Need-orders-orders-requires
+orders-orders-requires c κs =
     let s = c.before.before.before.before.before.before.before.before in
     (limits_of_refusal_of _ s.requires.0.0).hours_le
 
-slice-aggregate-search-first : tie.Need-slice-aggregate-search-first
-slice-aggregate-search-first c =
-    sym (ap length c.before.before.margins2.ensures ∙ length_padded (pos 0) _ _ most_hours)
+slice_bounds-search_first-end : tie.Need-slice_bounds-search_first-end
+slice_bounds-search_first-end c =
+    sym (ap length c.before.before.margins.ensures ∙ length_padded (pos 0) _ _ most_hours)
 
-slice-aggregate-search-first-2 : tie.Need-slice-aggregate-search-first-2
-slice-aggregate-search-first-2 c = search rules
+slice_bounds-search_first-end-2 : tie.Need-slice_bounds-search_first-end-2
+slice_bounds-search_first-end-2 c = search rules
 
-search-first-requires : tie.Need-search-first-requires
+search_first-worth-requires : tie.Need-search_first-worth-requires
 unfolding unit_of margins_of orders_of
-search-first-requires c κs =
-    let unit-of = c.before.before.before.before.before.before.before.before.before.before.before.unit-of in
-    let opening_of = c.before.before.before.before.before.before.before.before.before.opening_of in
+search_first-worth-requires c κs =
+    let unit-of = c.before.before.before.before.before.before.before.before.before.before.before.unit_of-unit in
+    let opening_of = c.before.before.before.before.before.before.before.before.before.opening_of-opening in
     let s = c.before.before.before.before.before.before.before.before.before.before.before.before.before in
     let case = s.args.case in
     let u = unit-of.ensures
     in
-    let ch = c.before.before.before.before.before.before.before.before.before.before.charges-of.ensures in
-    let o = c.before.before.before.before.before.before.before.before.before.opening_of.ensures in
-    let m = c.before.before.before.before.before.margins2.ensures in
-    let ord = c.before.before.before.before.orders.ensures in
+    let ch = c.before.before.before.before.before.before.before.before.before.before.charges_of-charges.ensures in
+    let o = c.before.before.before.before.before.before.before.before.before.opening_of-opening.ensures in
+    let m = c.before.before.before.before.before.margins.ensures in
+    let ord = c.before.before.before.before.orders-orders.ensures in
     let lim = limits_of_refusal_of case s.requires.0.0 in
     let work = work_within case in
     let (cost, pays) = s.requires.1.1 in
@@ -117,16 +117,39 @@ search-first-requires c κs =
 clear-requires : tie.Need-clear-requires
 clear-requires c κs =
     let a = c.before.before.before.before in
-    omega (arith, a.search-first.auto.1.1.1.1.1.1.1.0, (start a).requires.1.0.1)
+    omega (arith, a.search_first-worth.auto.work, (start a).requires.1.0.1)
 
 absent-requires : tie.Need-absent-requires
 absent-requires c κs = search rules
 
-same_length : tie.Need-same-length
-same_length c = search rules
+shape_of-work-then-absent : tie.Need-shape_of-work-then-absent
+shape_of-work-then-absent c = search rules
 
-same-length-2 : tie.Need-same-length-2
-same-length-2 c = search rules
+shape_of-outputs-then-absent : tie.Need-shape_of-outputs-then-absent
+shape_of-outputs-then-absent c = search rules
+
+returns-then-absent : tie.Need-returns-then-absent
+returns-then-absent c =
+    let a = c.before.before.before.before.before.before.before.before in
+    let s = start a in
+    let work = s.args.work.now in
+    let outputs = s.args.outputs.now in
+    let gone = sym c.before.absent.ensures ∙ c.if-absent.true in
+    let (accepted, late) = s.requires.0 in (
+      λ cost pays. (find_none s.args.case accepted late pays work outputs _ _ (found a) gone).0,
+      (
+        λ cost pays. c.before.before.before.clear.ensures
+            ∙ cleared_past s.args.n work _ a.search_first-worth.ensures.1
+            ∙ ap (λ n. cleared n work) s.requires.1.0.0 ∙ sym (planned_work s.args.case _ work outputs _),
+        λ cost pays. (find_none s.args.case accepted late pays work outputs _ _ (found a) gone).1,
+      ),
+    )
+
+shape_of-work : tie.Need-shape_of-work
+shape_of-work c = search rules
+
+shape_of-outputs : tie.Need-shape_of-outputs
+shape_of-outputs c = search rules
 
 returns : tie.Need-returns
 returns c =
@@ -134,42 +157,19 @@ returns c =
     let s = start a in
     let work = s.args.work.now in
     let outputs = s.args.outputs.now in
-    let gone = sym c.before.absent.ensures ∙ c.if1.true in
-    let (accepted, late) = s.pre.0 in (
-      λ cost pays. (find_none s.args.case accepted late pays work outputs _ _ (found a) gone).0,
-      (
-        λ cost pays. c.before.before.before.clear.ensures
-            ∙ cleared_past s.args.n work _ a.search-first.ensures.1
-            ∙ ap (λ n. cleared n work) s.pre.1.0.0 ∙ sym (planned_work s.args.case _ work outputs _),
-        λ cost pays. (find_none s.args.case accepted late pays work outputs _ _ (found a) gone).1,
-      ),
-    )
-
-same-length-3 : tie.Need-same-length-3
-same-length-3 c = search rules
-
-same-length-4 : tie.Need-same-length-4
-same-length-4 c = search rules
-
-returns-2 : tie.Need-returns-2
-returns-2 c =
-    let a = c.before.before.before.before.before.before.before.before in
-    let s = start a in
-    let work = s.args.work.now in
-    let outputs = s.args.outputs.now in
-    let there = sym c.before.absent.ensures ∙ c.if1.false in
-    let (accepted, late) = s.pre.0 in (
+    let there = sym c.before.absent.ensures ∙ c.if-absent.false in
+    let (accepted, late) = s.requires.0 in (
       λ cost pays. (find_some s.args.case accepted late pays work outputs _ _ (found a) there).0,
       (
         λ cost pays. c.before.before.before.clear.ensures
-            ∙ cleared_past s.args.n work _ a.search-first.ensures.1
-            ∙ ap (λ n. cleared n work) s.pre.1.0.0 ∙ sym (planned_work s.args.case _ work outputs _),
+            ∙ cleared_past s.args.n work _ a.search_first-worth.ensures.1
+            ∙ ap (λ n. cleared n work) s.requires.1.0.0 ∙ sym (planned_work s.args.case _ work outputs _),
         λ cost pays. (find_some s.args.case accepted late pays work outputs _ _ (found a) there).1,
       ),
     )
 
-pub searched-spec : {M : Type 1} → statement M
-searched-spec =
-    tie.close (tie.spec unit-of-requires charges-of-requires opening-of-requires margins-requires orders-requires
-    slice-aggregate-search-first slice-aggregate-search-first-2 search-first-requires clear-requires absent-requires
-    same_length same-length-2 returns same-length-3 same-length-4 returns-2)
+pub searched_spec : {M : Type 1} → statement M
+searched_spec =
+    tie.close (tie.spec unit_of-unit-requires charges_of-charges-requires opening_of-opening-requires margins-requires orders-orders-requires
+    slice_bounds-search_first-end slice_bounds-search_first-end-2 search_first-worth-requires clear-requires absent-requires
+    shape_of-work-then-absent shape_of-outputs-then-absent returns-then-absent shape_of-work shape_of-outputs returns)

@@ -20,72 +20,72 @@ use Rattle.model.proofs.CalendarLaws.{calendar_of_day}
 use Rattle.calendar.proofs.schedule_by_calendar.Statement.{statement}
 use Rattle.calendar.proofs.schedule_by_calendar.Tie as tie
 
-fill-requires : tie.Need-fill-requires
-fill-requires c κs = search rules
+fill-filling-requires : tie.Need-fill-filling-requires
+fill-filling-requires c κs = search rules
 
-returns : tie.Need-returns
-returns c =
+returns-then-filling-ne0 : tie.Need-returns-then-filling-ne0
+returns-then-filling-ne0 c =
     let d = c.before.before in
     let a = d.before.before.before.before.args in
     left _ _ (calendar_of_clash a.reading.case _ _ _ _ a.work.now a.outputs.now _ refl
-    (λ z. c.if1.true (d.fill.ensures.0 ∙ z))) (ap NotPlanned d.fill.ensures.0, (refl, refl))
+    (λ z. c.if-filling-ne0.true (d.fill-filling.ensures.0 ∙ z))) (ap NotPlanned d.fill-filling.ensures.0, (refl, refl))
 
-enum_told : tie.Need-enum-told
-enum_told c = search rules
+enum_told-1 : tie.Need-enum_told-1
+enum_told-1 c = search rules
 
-enum-told-2 : tie.Need-enum-told-2
-enum-told-2 c = search rules
+enum_told-in_default : tie.Need-enum_told-in_default
+enum_told-in_default c = search rules
 
 number-requires : tie.Need-number-requires
 number-requires c κs = search rules
 
 -- the call, seen from after 14 and 15, which do not apply
-abbrev start : tie.Else1 → tie.Start
+abbrev start : tie.Else-filling-ne0 → tie.Start
 start c = c.before.before.before.before.before.before
 
-unrefused : (c : tie.Else1)
+unrefused : (c : tie.Else-filling-ne0)
     → first_of (calendar_tests (start c).args.on.now (start c).args.off.now (start c).args.first.0
     (start c).args.hours.0 []) ≡ 0
-unrefused c = sym c.before.before.fill.ensures.0 ∙ c.if1.false
+unrefused c = sym c.before.before.fill-filling.ensures.0 ∙ c.if-filling-ne0.false
 
-returns-2 : tie.Need-returns-2
-returns-2 c =
+returns-in_default : tie.Need-returns-in_default
+returns-in_default c =
     let d = c.before.before.before in
     let a = (start d).args in
     left _ _ (calendar_of_unread a.reading.case _ _ _ _ a.work.now a.outputs.now (unrefused d)
     c.before.enum-told2.given.1) (ap NotPlanned c.number.ensures, (refl, refl))
 
-cast-if2 : tie.Need-overflow-cast-if2
-cast-if2 c = search rules
+overflow_cast-hours : tie.Need-overflow_cast-hours
+overflow_cast-hours c = search rules
 
 -- the same, seen from after the outcome was told: the reading is accepted
-abbrev opened : tie.After-case → tie.Else1
-opened c = c.before.before.before
+abbrev opened : tie.After-case-1 → tie.Else-filling-ne0
+opened c = c.before.before
 
-abbrev asked : tie.After-case → Outcome → Scheduling
+abbrev asked : tie.After-case-1 → Outcome → Scheduling
 asked c o =
     let a = (start (opened c)).args in
     calendar_of o a.reading.case a.on.now a.off.now a.first.0 a.hours.0 a.work.now
     a.outputs.now
 
-accepted : (c : tie.After-case) → asked c (start (opened c)).args.reading.outcome ≡ asked c Accepted
-accepted c = ap (asked c) c.before.enum_told.given.1
+accepted : (c : tie.After-case-1) → asked c (start (opened c)).args.reading.outcome ≡ asked c Accepted
+accepted c = ap (asked c) c.before.in-Accepted.is
 
-returns-3 : tie.Need-returns-3
-returns-3 c =
+returns-then-case-hours : tie.Need-returns-then-case-hours
+returns-then-case-hours c =
     let d = c.before.before.before in
-    left _ _ (accepted d ∙ calendar_of_other _ _ _ _ _ _ _ (unrefused (opened d)) c.if2.true) (refl, (refl, refl))
+    left _ _ (accepted d ∙ calendar_of_other _ _ _ _ _ _ _ (unrefused (opened d)) c.if-case-hours.true) (refl, (refl, refl))
 
-refusal-of-requires : tie.Need-refusal-of-requires
-refusal-of-requires c κs = search rules
+refusal_of-refusal-requires : tie.Need-refusal_of-refusal-requires
+refusal_of-refusal-requires c κs = search rules
 
-returns-4 : tie.Need-returns-4
-returns-4 c =
+returns-then-refusal-ne0 : tie.Need-returns-then-refusal-ne0
+returns-then-refusal-ne0 c =
     let e = c.before.before in
     let d = e.before.before.before in
-    let r = c.before.refusal-of.ensures in
+    let r = c.before.refusal_of-refusal.ensures in
     left _ _
-    (accepted d ∙ calendar_of_outside _ _ _ _ _ _ _ (unrefused (opened d)) e.if2.false (λ z. c.if3.true (r ∙ z)))
+    (accepted d ∙ calendar_of_outside _ _ _ _ _ _ _ (unrefused (opened d)) e.if-case-hours.false (λ z. c.if-refusal-ne0.true (r ∙ z)))
     (ap NotPlanned r, (refl, refl))
 
 ordered-requires : tie.Need-ordered-requires
@@ -94,14 +94,14 @@ ordered-requires c κs = search rules
 schedule-requires : tie.Need-schedule-requires
 schedule-requires c κs = search rules
 
-same_length : tie.Need-same-length
-same_length c = search rules
+shape_of-work : tie.Need-shape_of-work
+shape_of-work c = search rules
 
-same-length-2 : tie.Need-same-length-2
-same-length-2 c = search rules
+shape_of-outputs : tie.Need-shape_of-outputs
+shape_of-outputs c = search rules
 
-returns-5 : tie.Need-returns-5
-returns-5 c =
+returns : tie.Need-returns
+returns c =
     let g = c.before.before.before in
     let f = g.before.before.before.before.before in
     let e = f.before.before in
@@ -109,32 +109,32 @@ returns-5 c =
     let a = (start (opened d)).args in
     let case = a.reading.case in
     let filled = filled_orders a.on.now a.off.now a.first.0 a.hours.0 in
-    let orders = (opened d).before.before.fill.ensures.1
-    ∙ ap (λ n. cond (eqb n 0) filled (replicate most_hours 0)) (opened d).if1.false in
+    let orders = (opened d).before.before.fill-filling.ensures.1
+    ∙ ap (λ n. cond (eqb n 0) filled (replicate most_hours 0)) (opened d).if-filling-ne0.false in
     let day = g.before.before.before.ordered.ensures
     ∙ ap (with_arrays case case.rise case.fall case.prices) orders in
     left _ _
-    (accepted d ∙ calendar_of_day _ _ _ _ _ _ _ (unrefused (opened d)) e.if2.false
-    (sym f.before.refusal-of.ensures ∙ f.if3.false)
+    (accepted d ∙ calendar_of_day _ _ _ _ _ _ _ (unrefused (opened d)) e.if-case-hours.false
+    (sym f.before.refusal_of-refusal.ensures ∙ f.if-refusal-ne0.false)
     ∙ ap (λ x. schedule_of Accepted x a.work.now a.outputs.now) (sym day))
     g.schedule.ensures
 
-pub schedule-by-calendar-spec : {M : Type 1} → statement M
-schedule-by-calendar-spec =
+pub schedule_by_calendar_spec : {M : Type 1} → statement M
+schedule_by_calendar_spec =
     tie.close
     (tie.spec
-    fill-requires
-    returns
-    enum_told
-    enum-told-2
+    fill-filling-requires
+    returns-then-filling-ne0
+    enum_told-1
+    enum_told-in_default
     number-requires
-    returns-2
-    cast-if2
-    returns-3
-    refusal-of-requires
-    returns-4
+    returns-in_default
+    overflow_cast-hours
+    returns-then-case-hours
+    refusal_of-refusal-requires
+    returns-then-refusal-ne0
     ordered-requires
     schedule-requires
-    same_length
-    same-length-2
-    returns-5)
+    shape_of-work
+    shape_of-outputs
+    returns)

@@ -22,17 +22,17 @@ use Rattle.curves.proofs.check_by_curve.Statement.{statement}
 use Rattle.curves.proofs.check_by_curve.Tie as tie
 
 -- the call, seen from after its first tests, and what they said of its kind
-abbrev start : tie.After-entered → tie.Start
+abbrev start : tie.After-entered-outcome → tie.Start
 start d = d.before.before.before
 
-abbrev kind : tie.After-entered → Kind
+abbrev kind : tie.After-entered-outcome → Kind
 kind d = (start d).args.kind
 
-said : (d : tie.After-entered) → let r = (start d).args.reading in
-    d.entered.result ≡ entered_of (record_of (kind d)) r.outcome r.case
+said : (d : tie.After-entered-outcome) → let r = (start d).args.reading in
+    d.entered-outcome.result ≡ entered_of (record_of (kind d)) r.outcome r.case
 said d =
     let r = (start d).args.reading in
-    d.entered.ensures ∙ ap (λ x. entered_of x r.outcome r.case) d.before.record_of.ensures
+    d.entered-outcome.ensures ∙ ap (λ x. entered_of x r.outcome r.case) d.before.record_of-curve.ensures
 
 -- what is answered and left
 given : {f g : Filling Verdict} {v : Verdict} {table : List ℤ} → f ≡ g → (v ≡ g.answer) × (table ≡ g.table)
@@ -43,25 +43,25 @@ given e h = (
       (sym e),
 )
 
-returns : tie.Need-returns
-returns c =
-    let told = c.before.enum-told2.given.1 in
+returns-in_default : tie.Need-returns-in_default
+returns-in_default c =
+    let told = c.before.in_default.is in
     let d = c.before.before.before in
     let a = (start d).args in
     given (check_refused a.kind a.reading.case a.list.now a.table.now a.reading.outcome _
     (sym (said d) ∙ told)) (ap NotChecked (c.number.ensures ∙ ap outcome_number told), refl)
 
 -- they have passed
-abbrev tests : tie.After-struct-known → tie.After-entered
-tests s = s.before.before.before.before
+abbrev tests : tie.After-struct_known-1 → tie.After-entered-outcome
+tests s = s.before.before.before
 
-module _ (s : tie.After-struct-known) where
+module _ (s : tie.After-struct_known-1) where
   passed : let r = (start (tests s)).args.reading in Entered (kind (tests s)) r.outcome r.case
-  passed = entered _ _ _ (sym (said (tests s)) ∙ s.before.before.enum_told.given.1)
+  passed = entered _ _ _ (sym (said (tests s)) ∙ s.before.before.in-Accepted.is)
 
   usable : Usable (kind (tests s))
   usable =
-      record { floats = kind_held (kind (tests s)) (start (tests s)).well-formed.1.0; passes = passed.curve }
+      record { floats = kind_held (kind (tests s)) (start (tests s)).well_formed.1.0; passes = passed.curve }
 
   read : let a = (start (tests s)).args in
       check_by_curve_of a.kind a.reading.outcome a.reading.case a.list.now a.table.now
@@ -70,72 +70,72 @@ module _ (s : tie.After-struct-known) where
       let a = (start (tests s)).args in
       ap (λ o. check_by_curve_of a.kind o a.reading.case a.list.now a.table.now) passed.reading
 
-returns-2 : tie.Need-returns-2
-returns-2 c =
+returns-then-list-case : tie.Need-returns-then-list-case
+returns-then-list-case c =
     let s = c.before in
     let p = passed s in
     let a = (start (tests s)).args in
     given (read s ∙ check_by_curve_of_length a.kind p.curve a.reading.case a.list.now a.table.now
-    p.within c.if1.true) (refl, refl)
+    p.within c.if-list-case.true) (refl, refl)
 
-returns-3 : tie.Need-returns-3
-returns-3 c =
+returns-then-table-lt-COSTS : tie.Need-returns-then-table-lt-COSTS
+returns-then-table-lt-COSTS c =
     let e = c.before in
     let s = e.before in
     let p = passed s in
     let a = (start (tests s)).args in
     given (read s ∙ check_by_curve_of_short a.kind p.curve a.reading.case a.list.now a.table.now
-    p.within e.if1.false c.if2.true) (refl, refl)
+    p.within e.if-list-case.false c.if-table-lt-COSTS.true) (refl, refl)
 
 fill-requires : tie.Need-fill-requires
 fill-requires c κs =
     let s = c.before.before.before in
-    (rw (tests s).before.record_of.ensures (passed s).curve, omega (arith, c.before.if2.false))
+    (rw (tests s).before.record_of-curve.ensures (passed s).curve, omega (arith, c.before.if-table-lt-COSTS.false))
 
 -- the table after it was filled
 module _ (c : tie.After-fill) where
-  abbrev ready : tie.Else2
+  abbrev ready : tie.Else-table-lt-COSTS
   ready = c.before.before
 
-  abbrev known : tie.After-struct-known
+  abbrev known : tie.After-struct_known-1
   known = ready.before.before
 
   abbrev lent : List ℤ
   lent = (start (tests known)).args.table.now
 
   abbrev left : List ℤ
-  left = c.fill.new.1.0
+  left = c.fill.new.table
 
   drawn : left ≡ table_of (curved_of (record_of (kind (tests known)))) ++ drop costs_length lent
-  drawn = rw (tests known).before.record_of.ensures at c.fill.ensures
+  drawn = rw (tests known).before.record_of-curve.ensures at c.fill.ensures
 
   shown : take costs_length left ≡ table_of (kind (tests known))
   shown = front (usable known) lent drawn
 
-slice-aggregate-judge : tie.Need-slice-aggregate-judge
-slice-aggregate-judge c =
+slice_bounds-judge-end-2 : tie.Need-slice_bounds-judge-end-2
+slice_bounds-judge-end-2 c =
     let f = c.before.before in
-    omega (arith, length-take costs_length (left f), f.fill.auto.1.0, (ready f).if2.false)
+    omega (arith, length-take costs_length (left f), f.fill.auto.table, (ready f).if-table-lt-COSTS.false)
 
 judge-requires : tie.Need-judge-requires
 judge-requires c κs =
     let f = c.before.before in
     let s = known f in
-    (((passed s).within, (ready f).before.if1.false), (kind (tests s), usable s, shown f))
+    (((passed s).within, (ready f).before.if-list-case.false), (kind (tests s), usable s, shown f))
 
-returns-4 : tie.Need-returns-4
-returns-4 c =
+returns : tie.Need-returns
+returns c =
     let f = c.before.before.before in
     let s = known f in
     let p = passed s in
     let a = (start (tests s)).args in
     given (read s ∙ check_by_curve_of_judged a.kind p.curve a.reading.case a.list.now a.table.now
-    p.within (ready f).before.if1.false (ready f).if2.false)
+    p.within (ready f).before.if-list-case.false (ready f).if-table-lt-COSTS.false)
     (c.judge.ensures a.kind (usable s) (shown f), filled (usable s) (lent f) (drawn f))
 
-pub check-by-curve-spec : {M : Type 1} → statement M
-check-by-curve-spec =
+pub check_by_curve_spec : {M : Type 1} → statement M
+check_by_curve_spec =
     tie.close
     (tie.spec (λ c κs. search rules) (λ c κs. search rules) (λ c. search rules) (λ c. search rules)
-    (λ c κs. search rules) returns returns-2 returns-3 fill-requires (λ c. search rules) slice-aggregate-judge
-    judge-requires (λ c. search rules) returns-4)
+    (λ c κs. search rules) returns-in_default returns-then-list-case returns-then-table-lt-COSTS fill-requires (λ c. search rules) slice_bounds-judge-end-2
+    judge-requires (λ c. search rules) returns)

@@ -10,38 +10,38 @@ use Rattle.curves.specs.Entered.{read_of, entered_of}
 use Rattle.curves.proofs.entered.Statement.{statement}
 use Rattle.curves.proofs.entered.Tie as tie
 
-returns : tie.Need-returns
-returns c =
+returns-then-not-accepts : tie.Need-returns-then-not-accepts
+returns-then-not-accepts c =
     let a = c.before in
-    rw (sym a.accepts.ensures ∙ not-true a.accepts.result c.if1.true)
+    rw (sym a.accepts.ensures ∙ not-true a.accepts.result c.if-not-accepts.true-raw)
 
 -- the curve's test has passed
-passed : (c : tie.Else1) → accepted c.before.before.args.curve ≡ true
-passed c = let a = c.before in sym a.accepts.ensures ∙ not-false a.accepts.result c.if1.false
+passed : (c : tie.Else-not-accepts) → accepted c.before.before.args.curve ≡ true
+passed c = let a = c.before in sym a.accepts.ensures ∙ not-false a.accepts.result c.if-not-accepts.false-raw
 
-returns-2 : tie.Need-returns-2
-returns-2 c = rw (passed c.before.before, c.enum-told2.given.1)
+returns-in_default : tie.Need-returns-in_default
+returns-in_default c = rw (passed c.before, c.in_default.is)
 
 -- and the reading was accepted
-read : (d : tie.After-refusal-of) → let a = d.before.before.before.before.before.args in
+read : (d : tie.After-refusal_of-refusal) → let a = d.before.before.before.before.before.args in
     entered_of a.curve a.reading.outcome a.reading.case ≡ read_of Accepted a.reading.case
-read d = rw (passed d.before.before.before, d.before.enum_told.given.1)
+read d = rw (passed d.before.before.before, d.before.in-Accepted.is)
 
-returns-3 : tie.Need-returns-3
-returns-3 c =
+returns-then-refusal-ne0 : tie.Need-returns-then-refusal-ne0
+returns-then-refusal-ne0 c =
     let d = c.before in
     let a = d.before.before.before.before.before.args in
-    let r = d.refusal-of.ensures in
-    rw (read d, ne_eqb (refusal_of a.reading.case) 0 (λ z. c.if2.true (r ∙ z))) (ap Refused r)
+    let r = d.refusal_of-refusal.ensures in
+    rw (read d, ne_eqb (refusal_of a.reading.case) 0 (λ z. c.if-refusal-ne0.true (r ∙ z))) (ap Refused r)
 
-returns-4 : tie.Need-returns-4
-returns-4 c =
+returns : tie.Need-returns
+returns c =
     let d = c.before in
     let a = d.before.before.before.before.before.args in
-    rw (read d, eq-eqb (refusal_of a.reading.case) 0 (sym d.refusal-of.ensures ∙ c.if2.false))
+    rw (read d, eq-eqb (refusal_of a.reading.case) 0 (sym d.refusal_of-refusal.ensures ∙ c.if-refusal-ne0.false))
 
-pub entered-spec : {M : Type 1} → statement M
-entered-spec =
+pub entered_spec : {M : Type 1} → statement M
+entered_spec =
     tie.close
-    (tie.spec (λ c κs. search rules) returns (λ c. search rules) (λ c. search rules) returns-2 (λ c κs. search rules)
-    returns-3 returns-4)
+    (tie.spec (λ c κs. search rules) returns-then-not-accepts (λ c. search rules) (λ c. search rules) returns-in_default (λ c κs. search rules)
+    returns-then-refusal-ne0 returns)

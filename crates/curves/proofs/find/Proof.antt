@@ -26,39 +26,39 @@ searched-kind : (k : Kind) {costs : List ℤ} → costs ≡ table_of k → (c : 
 unfolding earned_by
 searched-kind k e c work outputs = ap (λ (xs : List ℤ). searched_by (cost_at xs) c work outputs) e
 
-split-of-requires : tie.Need-split-of-requires
-split-of-requires c κs =
+split_of-split-requires : tie.Need-split_of-split-requires
+split_of-split-requires c κs =
     let (k, u, e) = c.before.requires.1.1 in
     (tabled_of_kind u e, long_of_kind u e)
 
 -- the call, seen from after the split
-abbrev start : tie.After-split-of → tie.Start
+abbrev start : tie.After-split_of-split → tie.Start
 start c = c.before.before
 
-slice-aggregate-find : tie.Need-slice-aggregate-find
-slice-aggregate-find c =
+slice_bounds-find-end : tie.Need-slice_bounds-find-end
+slice_bounds-find-end c =
     let x = c.before in
     let (k, u, e) = (start x).requires.1.1 in
     let xs = (start x).args.costs.now in
-    omega (arith, length-take x.split-of.result.shown xs, long_of_kind u e, x.split-of.ensures.0)
+    omega (arith, length-take x.split_of-split.result.shown xs, long_of_kind u e, x.split_of-split.ensures.0)
 
 find-requires : tie.Need-find-requires
 find-requires c κs =
     let x = c.before.before.before in
-    ((start x).requires.0, ((start x).requires.1.0, (_, x.split-of.ensures.1)))
+    ((start x).requires.0, ((start x).requires.1.0, (_, x.split_of-split.ensures.1)))
 
-same_length : tie.Need-same-length
-same_length c = search rules
+shape_of-work : tie.Need-shape_of-work
+shape_of-work c = search rules
 
-same-length-2 : tie.Need-same-length-2
-same-length-2 c = search rules
+shape_of-outputs : tie.Need-shape_of-outputs
+shape_of-outputs c = search rules
 
 returns : tie.Need-returns
 returns c =
     let f = c.before.before.before in
     let x = f.before.before.before.before in
     let a = (start x).args in
-    let pays = x.split-of.ensures.1 in
+    let pays = x.split_of-split.ensures.1 in
     let r = f.find.ensures in
     let same : (k : Kind) → a.costs.now ≡ table_of k → searched_by (cost_at a.costs.now) a.case a.work.now
     a.outputs.now ≡ planned a.case (earned_by k a.case) a.work.now a.outputs.now
@@ -72,4 +72,4 @@ returns c =
 
 pub find_spec : {M : Type 1} → statement M
 find_spec =
-    tie.close (tie.spec split-of-requires slice-aggregate-find find-requires same_length same-length-2 returns)
+    tie.close (tie.spec split_of-split-requires slice_bounds-find-end find-requires shape_of-work shape_of-outputs returns)

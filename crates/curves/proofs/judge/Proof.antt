@@ -28,49 +28,49 @@ earned-kind : (k : Kind) {costs : List ℤ} → costs ≡ table_of k → (c : Ca
 unfolding earned_by
 earned-kind k e c l = ap (λ (xs : List ℤ). profit_by (cost_at xs) c l) e
 
-first-breach-requires : tie.Need-first-breach-requires
-first-breach-requires c κs = search rules
+first_breach-found-requires : tie.Need-first_breach-found-requires
+first_breach-found-requires c κs = search rules
 
 -- the call, seen from where no breach was found
-abbrev start : tie.Then1 → tie.Start
+abbrev start : tie.Then-found-eq0 → tie.Start
 start c = c.before.before.before.before
 
-clean : (c : tie.Then1) → breach (start c).args.case (start c).args.list.now ≡ none
+clean : (c : tie.Then-found-eq0) → breach (start c).args.case (start c).args.list.now ≡ none
 clean c =
-    let found = c.before.before.first_breach in
-    found.ensures ∙ found_none found.result c.if1.true
+    let found = c.before.before.first_breach-found in
+    found.ensures ∙ found_none found.result c.if-found-eq0.true
 
-kept : (c : tie.Then1) → T (keeps (start c).args.case (start c).args.list.now)
+kept : (c : tie.Then-found-eq0) → T (keeps (start c).args.case (start c).args.list.now)
 kept c = kept_of_none (start c).args.case (start c).args.list.now (start c).requires.0.1 (clean c)
 
-by-table-requires : tie.Need-by-table-requires
-by-table-requires c κs =
+by_table-requires : tie.Need-by_table-requires
+by_table-requires c κs =
     let (k, u, e) = (start c).requires.1 in
     (tabled_of_kind u e, long_of_kind u e)
 
 earned-requires : tie.Need-earned-requires
 earned-requires c κs =
     let t = c.before in
-    (((start t).requires.0.0, kept t), (_, c.by-table.ensures.1))
+    (((start t.before).requires.0.0, kept t.before), (_, c.by_table.ensures.1))
+
+returns-then-found-eq0 : tie.Need-returns-then-found-eq0
+returns-then-found-eq0 c =
+    let b = c.before in
+    let t = b.before in
+    let a = (start t.before).args in
+    λ k u e.
+    let sum = c.earned.ensures _ b.by_table.ensures.1 ∙ earned-kind k e a.case a.list.now in
+    ap (λ (x : ℤ). Passes (record { 0 = x })) sum
+    ∙ sym (ap (judged (earned_by k a.case a.list.now)) (clean t.before) ∙ judged_none
+    (earned_by k a.case a.list.now))
 
 returns : tie.Need-returns
 returns c =
-    let b = c.before in
-    let t = b.before in
-    let a = (start t).args in
-    λ k u e.
-    let sum = c.earned.ensures _ b.by-table.ensures.1 ∙ earned-kind k e a.case a.list.now in
-    ap (λ (x : ℤ). Passes (record { 0 = x })) sum
-    ∙ sym (ap (judged (earned_by k a.case a.list.now)) (clean t) ∙ judged_none
-    (earned_by k a.case a.list.now))
-
-returns-2 : tie.Need-returns-2
-returns-2 c =
-    let found = c.before.before.first_breach in
+    let found = c.before.before.first_breach-found in
     let a = c.before.before.before.before.args in
-    let some = found.ensures ∙ found_some found.result c.if1.false in
+    let some = found.ensures ∙ found_some found.result c.if-found-eq0.false in
     λ k u e. sym (ap (judged (earned_by k a.case a.list.now)) some
     ∙ judged_some (earned_by k a.case a.list.now) found.result)
 
-pub judge-spec : {M : Type 1} → statement M
-judge-spec = tie.close (tie.spec first-breach-requires by-table-requires earned-requires returns returns-2)
+pub judge_spec : {M : Type 1} → statement M
+judge_spec = tie.close (tie.spec first_breach-found-requires by_table-requires earned-requires returns-then-found-eq0 returns)

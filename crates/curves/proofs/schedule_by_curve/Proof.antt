@@ -27,17 +27,17 @@ use Rattle.curves.proofs.schedule_by_curve.Statement.{statement}
 use Rattle.curves.proofs.schedule_by_curve.Tie as tie
 
 -- the call, seen from after its first tests, and what they said of its kind
-abbrev start : tie.After-entered → tie.Start
+abbrev start : tie.After-entered-outcome → tie.Start
 start d = d.before.before.before
 
-abbrev kind : tie.After-entered → Kind
+abbrev kind : tie.After-entered-outcome → Kind
 kind d = (start d).args.kind
 
-said : (d : tie.After-entered) → let r = (start d).args.reading in
-    d.entered.result ≡ entered_of (record_of (kind d)) r.outcome r.case
+said : (d : tie.After-entered-outcome) → let r = (start d).args.reading in
+    d.entered-outcome.result ≡ entered_of (record_of (kind d)) r.outcome r.case
 said d =
     let r = (start d).args.reading in
-    d.entered.ensures ∙ ap (λ x. entered_of x r.outcome r.case) d.before.record_of.ensures
+    d.entered-outcome.ensures ∙ ap (λ x. entered_of x r.outcome r.case) d.before.record_of-curve.ensures
 
 -- what is answered and left
 abbrev Given : Filling Scheduling → Plan → List ℤ → List ℤ → List ℕ → Type 0
@@ -58,9 +58,9 @@ given e h =
       ),
     )
 
-returns : tie.Need-returns
-returns c =
-    let told = c.before.enum-told2.given.1 in
+returns-in_default : tie.Need-returns-in_default
+returns-in_default c =
+    let told = c.before.in_default.is in
     let d = c.before.before.before in
     let a = (start d).args in
     given (schedule_refused a.kind a.reading.case a.table.now a.work.now a.outputs.now
@@ -68,16 +68,16 @@ returns c =
     (ap NotPlanned (c.number.ensures ∙ ap outcome_number told), (refl, (refl, refl)))
 
 -- they have passed, and the working numbers that are needed are known
-abbrev tests : tie.After-work-of → tie.After-entered
-tests w = w.before.before.before.before
+abbrev tests : tie.After-work_of-n → tie.After-entered-outcome
+tests w = w.before.before.before
 
-module _ (w : tie.After-work-of) where
+module _ (w : tie.After-work_of-n) where
   passed : let r = (start (tests w)).args.reading in Entered (kind (tests w)) r.outcome r.case
-  passed = entered _ _ _ (sym (said (tests w)) ∙ w.before.before.enum_told.given.1)
+  passed = entered _ _ _ (sym (said (tests w)) ∙ w.before.before.in-Accepted.is)
 
   usable : Usable (kind (tests w))
   usable =
-      record { floats = kind_held (kind (tests w)) (start (tests w)).well-formed.1.0; passes = passed.curve }
+      record { floats = kind_held (kind (tests w)) (start (tests w)).well_formed.1.0; passes = passed.curve }
 
   read : let a = (start (tests w)).args in
       schedule_by_curve_of a.kind a.reading.outcome a.reading.case a.table.now a.work.now
@@ -98,51 +98,51 @@ module _ (w : tie.After-work-of) where
       given (read ∙ schedule_by_curve_of_short a.kind passed.curve a.reading.case a.table.now a.work.now
       a.outputs.now passed.within h) (refl, (refl, (refl, refl)))
 
-returns-2 : tie.Need-returns-2
-returns-2 c = short c.before (inl c.if1.true)
+returns-then-table-lt-COSTS : tie.Need-returns-then-table-lt-COSTS
+returns-then-table-lt-COSTS c = short c.before (inl c.if-table-lt-COSTS.true)
 
-returns-3 : tie.Need-returns-3
-returns-3 c =
+returns-then-work-n : tie.Need-returns-then-work-n
+returns-then-work-n c =
     let w = c.before.before in
-    short w (inr (inl (rw w.work_of.ensures at c.if2.true)))
+    short w (inr (inl (rw w.work_of-n.ensures at c.if-work-n.true)))
 
-returns-4 : tie.Need-returns-4
-returns-4 c = short c.before.before.before.before (inr (inr c.if3.true))
+returns-then-outputs-case : tie.Need-returns-then-outputs-case
+returns-then-outputs-case c = short c.before.before.before.before (inr (inr c.if-outputs-case.true))
 
 -- past all tests
-abbrev measured : tie.Else3 → tie.After-work-of
+abbrev measured : tie.Else-outputs-case → tie.After-work_of-n
 measured g = g.before.before.before.before
 
 fill-requires : tie.Need-fill-requires
 fill-requires c κs =
     let g = c.before in
     let w = measured g in
-    (rw (tests w).before.record_of.ensures (passed w).curve, omega (arith, g.before.before.before.if1.false))
+    (rw (tests w).before.record_of-curve.ensures (passed w).curve, omega (arith, g.before.before.before.if-table-lt-COSTS.false))
 
 -- the table after it was filled
 module _ (c : tie.After-fill) where
-  abbrev ready : tie.Else3
+  abbrev ready : tie.Else-outputs-case
   ready = c.before.before
 
-  abbrev known : tie.After-work-of
+  abbrev known : tie.After-work_of-n
   known = measured ready
 
   abbrev lent : List ℤ
   lent = (start (tests known)).args.table.now
 
   abbrev left : List ℤ
-  left = c.fill.new.1.0
+  left = c.fill.new.table
 
   drawn : left ≡ table_of (curved_of (record_of (kind (tests known)))) ++ drop costs_length lent
-  drawn = rw (tests known).before.record_of.ensures at c.fill.ensures
+  drawn = rw (tests known).before.record_of-curve.ensures at c.fill.ensures
 
   shown : take costs_length left ≡ table_of (kind (tests known))
   shown = front (usable known) lent drawn
 
-slice-aggregate-find : tie.Need-slice-aggregate-find
-slice-aggregate-find c =
+slice_bounds-find-end-2 : tie.Need-slice_bounds-find-end-2
+slice_bounds-find-end-2 c =
     let f = c.before.before in
-    omega (arith, length-take costs_length (left f), f.fill.auto.1.0, (ready f).before.before.before.if1.false)
+    omega (arith, length-take costs_length (left f), f.fill.auto.table, (ready f).before.before.before.if-table-lt-COSTS.false)
 
 find-requires : tie.Need-find-requires
 find-requires c κs =
@@ -150,11 +150,11 @@ find-requires c κs =
     let g = ready f in
     let w = known f in (
       (passed w).within,
-      ((w.work_of.ensures, g.before.before.if2.left, g.if3.left), (kind (tests w), usable w, shown f)),
+      ((w.work_of-n.ensures, g.before.before.if-work-n.left, g.if-outputs-case.left), (kind (tests w), usable w, shown f)),
     )
 
-returns-5 : tie.Need-returns-5
-returns-5 c =
+returns : tie.Need-returns
+returns c =
     let i = c.before.before.before in
     let f = i.before.before.before.before.before in
     let g = ready f in
@@ -164,8 +164,8 @@ returns-5 c =
     let r = i.find.ensures in
     given (read w
     ∙ schedule_by_curve_of_planned a.kind p.curve a.reading.case a.table.now a.work.now a.outputs.now
-    p.within g.before.before.before.if1.left
-    (omega (arith, w.work_of.ensures, g.before.before.if2.left)) g.if3.left) (
+    p.within g.before.before.before.if-table-lt-COSTS.left
+    (omega (arith, w.work_of-n.ensures, g.before.before.if-work-n.left)) g.if-outputs-case.left) (
       r.0 a.kind (usable w) (shown f),
       (
         filled (usable w) (lent f) (drawn f),
@@ -173,10 +173,10 @@ returns-5 c =
       ),
     )
 
-pub schedule-by-curve-spec : {M : Type 1} → statement M
-schedule-by-curve-spec =
+pub schedule_by_curve_spec : {M : Type 1} → statement M
+schedule_by_curve_spec =
     tie.close
     (tie.spec (λ c κs. search rules) (λ c κs. search rules) (λ c. search rules) (λ c. search rules)
-    (λ c κs. search rules) returns (λ c κs. search rules) returns-2 returns-3 returns-4 fill-requires
-    (λ c. search rules) slice-aggregate-find find-requires (λ c. search rules) (λ c. search rules) (λ c. search rules)
-    returns-5)
+    (λ c κs. search rules) returns-in_default (λ c κs. search rules) returns-then-table-lt-COSTS returns-then-work-n returns-then-outputs-case fill-requires
+    (λ c. search rules) slice_bounds-find-end-2 find-requires (λ c. search rules) (λ c. search rules) (λ c. search rules)
+    returns)

@@ -25,7 +25,7 @@ use Rattle.text.proofs.put_best.Tie as tie
 
 -- the text by the plan
 module _ (c : tie.After-schedule) where
-  abbrev read : tie.After-read
+  abbrev read : tie.After-read-reading
   read = c.before.before.before.before
 
   abbrev s : tie.Start
@@ -35,35 +35,35 @@ module _ (c : tie.After-schedule) where
   text = read_text (read_of s.args.file.now).outcome (read_of s.args.file.now).case
 
   refused : {n : ℕ} → c.schedule.result ≡ Refused n → text ≡ refused_line n
-  refused = told_refused s.args.file.now s.args.work.now s.args.outputs.now s.pre.0 s.pre.1
-      read.read.ensures c.schedule.ensures.0 c.schedule.ensures.1.1
+  refused = told_refused s.args.file.now s.args.work.now s.args.outputs.now s.requires.0 s.requires.1
+      read.read-reading.ensures c.schedule.ensures.0 c.schedule.ensures.1.1
 
   found : {m : HalfMills} → c.schedule.result ≡ Found m
       → text
       ≡ profit_line m.0
-      ++ hour_lines read.read.result.case c.schedule.new.1.1.0 read.read.result.case.hours
-  found = told_found s.args.file.now s.args.work.now s.args.outputs.now s.pre.0 s.pre.1
-      read.read.ensures c.schedule.ensures.0 c.schedule.ensures.1.1
+      ++ hour_lines read.read-reading.result.case c.schedule.new.outputs read.read-reading.result.case.hours
+  found = told_found s.args.file.now s.args.work.now s.args.outputs.now s.requires.0 s.requires.1
+      read.read-reading.ensures c.schedule.ensures.0 c.schedule.ensures.1.1
 
-  within : {m : HalfMills} → c.schedule.result ≡ Found m → Limits read.read.result.case
-  within = limits_found s.args.file.now s.args.work.now s.args.outputs.now s.pre.0 s.pre.1
-      read.read.ensures c.schedule.ensures.0 c.schedule.ensures.1.1
+  within : {m : HalfMills} → c.schedule.result ≡ Found m → Limits read.read-reading.result.case
+  within = limits_found s.args.file.now s.args.work.now s.args.outputs.now s.requires.0 s.requires.1
+      read.read-reading.ensures c.schedule.ensures.0 c.schedule.ensures.1.1
 
-read-requires : tie.Need-read-requires
-read-requires c κs = search rules
+read-reading-requires : tie.Need-read-reading-requires
+read-reading-requires c κs = search rules
 
 schedule-requires : tie.Need-schedule-requires
 schedule-requires c κs = search rules
 
-enum-known-profit : tie.Need-enum-known-profit
-enum-known-profit c = search rules
+enum_known-profit : tie.Need-enum_known-profit
+enum_known-profit c = search rules
 
 -- a day that was found
-module _ (c : tie.After-known-told) where
+module _ (c : tie.In-Found) where
   abbrev call : tie.After-schedule
-  call = c.before.before.before.before.before.before
+  call = c.before.before.before.before
 
-  limits : Limits (read call).read.result.case
+  limits : Limits (read call).read-reading.result.case
   limits = within call c.before.profit.given.1
 
   bounded : nat_abs c.before.profit.given.0.0.0 < 10 ^ 19
@@ -71,7 +71,7 @@ module _ (c : tie.After-known-told) where
 
   abbrev hours : List ℕ
   hours =
-      let case = (read call).read.result.case in
+      let case = (read call).read-reading.result.case in
       hour_lines case call.schedule.last.1.1.0 case.hours
 
   outputs-lt : (i : ℕ) → get_or call.schedule.last.1.1.0 i 0 < words
@@ -79,7 +79,7 @@ module _ (c : tie.After-known-told) where
 
   hours_length : length hours ≤ hour_length * most_hours
   hours_length =
-      let case = (read call).read.result.case in
+      let case = (read call).read-reading.result.case in
       let opening : case.initial.0 < words = omega (arith, initial_le case limits, limits.capacity_le) in
       let few : case.hours < 1000 = omega (arith, limits.hours_le) in
       omega (
@@ -93,65 +93,65 @@ module _ (c : tie.After-known-told) where
       let v = c.before.profit.given.0.0.0 in
       omega (arith, length-append (profit_line v) hours, length_profit_line v bounded, hours_length)
 
-put-day-requires : tie.Need-put-day-requires
-put-day-requires c κs =
+put_day-requires : tie.Need-put_day-requires
+put_day-requires c κs =
     let told = c.before.before in
     let kept = told.before.before.before.before.outputs.given in
-    let h : (read (call told)).read.result.case.hours ≤ length (call told).schedule.new.1.1.0
-    = omega (arith, (limits told).hours_le, (s (call told)).pre.1, kept) in
+    let h : (read (call told)).read-reading.result.case.hours ≤ length (call told).schedule.new.outputs
+    = omega (arith, (limits told).hours_le, (s (call told)).requires.1, kept) in
     ((h, (limits told).hours_le), omega (arith, day-length told))
 
-enum-known-number : tie.Need-enum-known-number
-enum-known-number c = search rules
+enum_known-number : tie.Need-enum_known-number
+enum_known-number c = search rules
 
 -- the number of a refusal
-refused-length : (c : tie.After-known-told2) → length (refused_line c.before.number.given.0.0) ≤ 12
+refused-length : (c : tie.In-Refused) → length (refused_line c.before.number.given.0.0) ≤ 12
 refused-length c = length_refused_line c.before.number.given.0.0 (search rules)
 
-put-refused-requires : tie.Need-put-refused-requires
-put-refused-requires c κs = omega (arith, refused-length c.before)
+put_refused-requires : tie.Need-put_refused-requires
+put_refused-requires c κs = omega (arith, refused-length c.before)
 
-same_length : tie.Need-same-length
-same_length c = search rules
+shape_of-work-in-Found : tie.Need-shape_of-work-in-Found
+shape_of-work-in-Found c = search rules
 
-same-length-2 : tie.Need-same-length-2
-same-length-2 c = search rules
+shape_of-outputs-in-Found : tie.Need-shape_of-outputs-in-Found
+shape_of-outputs-in-Found c = search rules
 
-returns : tie.Need-returns
-returns c =
+returns-in-Found : tie.Need-returns-in-Found
+returns-in-Found c =
     let told = c.before.before.before in (
-      rw (found (call told) told.before.profit.given.1) c.put-day.ensures,
-      omega (arith, c.put-day.ensures.place, day-length told),
+      rw (found (call told) told.before.profit.given.1) c.put_day.ensures,
+      omega (arith, c.put_day.ensures.place, day-length told),
     )
 
-same-length-3 : tie.Need-same-length-3
-same-length-3 c = search rules
+shape_of-work-in-Refused : tie.Need-shape_of-work-in-Refused
+shape_of-work-in-Refused c = search rules
 
-same-length-4 : tie.Need-same-length-4
-same-length-4 c = search rules
+shape_of-outputs-in-Refused : tie.Need-shape_of-outputs-in-Refused
+shape_of-outputs-in-Refused c = search rules
 
-returns-2 : tie.Need-returns-2
-returns-2 c =
+returns-in-Refused : tie.Need-returns-in-Refused
+returns-in-Refused c =
     let told = c.before.before in
     let s = told.before.before.before.before.before.before in (
       rw (refused s told.before.number.given.1)
-          c.Put-refused.ensures,
-      omega (arith, c.Put-refused.ensures.place, refused-length told),
+          c.put_refused.ensures,
+      omega (arith, c.put_refused.ensures.place, refused-length told),
     )
 
-pub put-best-spec : {M : Type 1} → statement M
-put-best-spec =
+pub put_best_spec : {M : Type 1} → statement M
+put_best_spec =
     tie.close
     (tie.spec
-    read-requires
+    read-reading-requires
     schedule-requires
-    enum-known-profit
-    put-day-requires
-    enum-known-number
-    put-refused-requires
-    same_length
-    same-length-2
-    returns
-    same-length-3
-    same-length-4
-    returns-2)
+    enum_known-profit
+    put_day-requires
+    enum_known-number
+    put_refused-requires
+    shape_of-work-in-Found
+    shape_of-outputs-in-Found
+    returns-in-Found
+    shape_of-work-in-Refused
+    shape_of-outputs-in-Refused
+    returns-in-Refused)

@@ -14,29 +14,29 @@ use Rattle.curves.proofs.split.step_at.Tie as tie
 again : (x y : ℤ) → y ≡ x +ℤ (y -ℤ x)
 again x y = omega (linear, parts_sub y x, parts_add x (y -ℤ x))
 
-add-value-at : tie.Need-overflow-add-value-at
-add-value-at c = search rules
+overflow_add-n : tie.Need-overflow_add-n
+overflow_add-n c = search rules
 
-value-at-requires : tie.Need-value-at-requires
-value-at-requires c κs = search rules
+value_at-requires : tie.Need-value_at-requires
+value_at-requires c κs = search rules
 
-value-at-requires-2 : tie.Need-value-at-requires-2
-value-at-requires-2 c κs = search rules
+value_at-requires-2 : tie.Need-value_at-requires-2
+value_at-requires-2 c κs = search rules
 
 difference-requires : tie.Need-difference-requires
 difference-requires c κs =
     let v = c.before in
     let s = v.before in
     let le = s.requires.0.cost_le in
-    rw (c.value-at2.ensures, v.value-at.ensures) (omega (arith, le s.args.n, le (s.args.n + 1)))
+    rw (c.value_at-2.ensures, v.value_at.ensures) (omega (arith, le s.args.n, le (s.args.n + 1)))
 
 returns : tie.Need-returns
 returns c =
     let w = c.before in
     let v = w.before in
     let a = v.before.args in
-    rw (c.difference.ensures, v.value-at.ensures, w.value-at2.ensures, add-one)
+    rw (c.difference.ensures, v.value_at.ensures, w.value_at-2.ensures, add-one)
     (again (cost_at a.costs.now a.n) (cost_at a.costs.now (suc a.n)))
 
-pub step-at-spec : {M : Type 1} → statement M
-step-at-spec = tie.close (tie.spec add-value-at value-at-requires value-at-requires-2 difference-requires returns)
+pub step_at_spec : {M : Type 1} → statement M
+step_at_spec = tie.close (tie.spec overflow_add-n value_at-requires value_at-requires-2 difference-requires returns)
