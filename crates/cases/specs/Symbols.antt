@@ -95,11 +95,11 @@ module _ (c : Case) where
   abbrev pub price : ℕ → ℤ
   price k = priced c.prices k
 
-  -- the order of hour k: 0 free, 1 on-line, 2 off_line
+  -- the order of hour k: 0 free, 1 on-line, 2 off-line
   abbrev pub order : ℕ → ℕ
   order k = hourly c.orders k
 
-  -- p(0) in MW; h, the hours on-line or off_line before hour 1
+  -- p(0) in MW; h, the hours on-line or off-line before hour 1
   abbrev pub p0 : ℕ
   p0 = c.initial.0
 

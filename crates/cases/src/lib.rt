@@ -27,7 +27,7 @@ pub const MOST_CHARGE: i32 = 100000000;
 
 pub const MOST_PRICE: i32 = 10000000;
 
-// The highest order byte: off_line.
+// The highest order byte: off-line.
 pub const MOST_ORDER: u8 = 2;
 
 // Hours: those of the longest year, and a day of the calendar at the least and at the most.
@@ -90,7 +90,7 @@ pub struct Case {
     pub fixed: Mills,
     pub startcost: Mills,
     pub stopcost: Mills,
-    // p(0), and h: the hours that the unit has been on-line or off_line before hour 1
+    // p(0), and h: the hours that the unit has been on-line or off-line before hour 1
     pub initial: Output,
     pub elapsed: Hour,
     // the stage of a start-up, or of a shut-down, that p(0) has reached; 0 where it is in none
@@ -99,7 +99,7 @@ pub struct Case {
     // PU and PD
     pub rise: [Output; STAGES],
     pub fall: [Output; STAGES],
-    // in mills per megawatt-hour; 0 free, 1 on-line, 2 off_line
+    // in mills per megawatt-hour; 0 free, 1 on-line, 2 off-line
     pub prices: [Mills; HOURS],
     pub orders: [u8; HOURS],
     // UD, DD and T: how many entries count

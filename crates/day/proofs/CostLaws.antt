@@ -53,7 +53,7 @@ carried earned sold h o b d s x i b' d' e =
     )
 
 module _ (cost : ℕ → ℤ) (c : Case) (l : List ℕ) where
-  -- half-megawatt-hours of an hour; what hours 1 to n sell them for, how many of them are off_line, and what is spent
+  -- half-megawatt-hours of an hour; what hours 1 to n sell them for, how many of them are off-line, and what is spent
   abbrev both : ℕ → ℕ
   both k = p c l k + p c l (k - 1)
 

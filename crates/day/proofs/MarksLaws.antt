@@ -154,7 +154,7 @@ module _ (c : Case) (l : List ℕ) where
   pub z_far : (k : ℕ) → last c < k → last c + DD c ≤ k → z c l k ≡ 0
   z_far k h b = z_none k h (λ e. omega (arith, (of_closes (last c + DD c + 1 - k) e).0))
 
-  -- inside the day: a start where the unit was off_line, a stop where it is
+  -- inside the day: a start where the unit was off-line, a stop where it is
   pub y_after_off : (k : ℕ) → 0 < k → k ≤ last c → v c l (k - 1) ≡ 0 → y c l k ≡ v c l k
   unfolding y v
   y_after_off zero h m e = absurd (omega arith)

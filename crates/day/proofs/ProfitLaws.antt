@@ -69,7 +69,7 @@ module _ (cost : ℕ → ℤ) (c : Case) (l : List ℕ) where
   profit_by_is = refl
 
 -- without a table the profit is the same
--- twice A, off_line taken off
+-- twice A, off-line taken off
 held : (a : ℤ) (n : ℕ) → n ≤ 1 → a *ℤ pos 2 -ℤ (a *ℤ pos 2) *ℤ pos (1 - n) ≡ a *ℤ pos (2 * n)
 unfolding one
 held a zero h =

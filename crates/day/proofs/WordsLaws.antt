@@ -22,7 +22,7 @@ use Rattle.day.proofs.RulesLaws.{hours_since_zero, hours_since_mark, hours_since
 use Rattle.day.proofs.TimesLaws.{time_of, of_time, y_le, z_le, y_back_le}
 
 module _ (c : Case) (l : List ℕ) where
-  -- ---- a mark by two outputs: it is that of the second where the first is off_line, and else 0
+  -- ---- a mark by two outputs: it is that of the second where the first is off-line, and else 0
   module _ (f i j : ℕ) (off : v c l i ≡ 0 → f ≡ v c l j) (on : v c l i ≡ 1 → f ≡ 0) where
     marked_off : f ≡ 1 → p c l i ≡ 0
     marked_off e = go (ℕ_discrete (p c l i) 0)

@@ -1,4 +1,4 @@
--- A second view of a list that keeps every rule: the states of a unit from hour to hour. It is off_line for so many
+-- A second view of a list that keeps every rule: the states of a unit from hour to hour. It is off-line for so many
 -- hours, in a start-up or a shut-down at an entry counted from 1, or on-line at an output since so many hours. The
 -- promise `runs` ties it to the rules; no entry rests on it. Definitions only. Assumes nothing.
 use Rattle.std.specs.Prelude.{◌≡◌, List, [], ◌∷◌, ℕ, zero, suc, ◌+◌, ◌≤◌, ◌<◌}
@@ -37,7 +37,7 @@ Runs U last obeys k s (q ∷ l) = (t : St) × Step U q s t × obeys (suc k) q ×
 abbrev pub Final : St → Type 0
 Final s = Unit {0}
 
--- the state in which a day opens, by its stages and its output: in a start-up, in a shut-down, off_line or on-line
+-- the state in which a day opens, by its stages and its output: in a start-up, in a shut-down, off-line or on-line
 abbrev pub first : Case → ℕ → ℕ → ℕ → St
 first U (suc i) j n = up (suc i)
 first U zero (suc j) n = down (suc j)

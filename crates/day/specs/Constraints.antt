@@ -37,11 +37,11 @@ module _ (c : Case) (l : List ℕ) where
   unfoldable pub rule4 : ℕ → Bool
   rule4 k = leb (p c l k + high c * stopping k) (stop_output k + high c * v c l k)
 
-  -- (5): ramp_up, waived inside PU
+  -- (5): ramp-up, waived inside PU
   unfoldable pub rule5 : ℕ → Bool
   rule5 k = leb (p c l k + RU c * starting c l k) (p c l (before k) + (high c * starting c l k + RU c * v c l k))
 
-  -- (6): ramp_down, waived inside PD
+  -- (6): ramp-down, waived inside PD
   unfoldable pub rule6 : ℕ → Bool
   rule6 k =
       leb (p c l (before k) + RD c * stops_within (DD c) k)

@@ -29,7 +29,7 @@ module _ (c : Case) (l : List ℕ) where
 
 -- by what an hour costs at n half-megawatt-hours, in half-mills, in place of 2·A·v + F·n
 module _ (cost : ℕ → ℤ) (c : Case) (l : List ℕ) where
-  -- the cost of hour k; off_line, in the hour of a stop too, that of no energy is taken off
+  -- the cost of hour k; off-line, in the hour of a stop too, that of no energy is taken off
   unfoldable pub cost_of_hour : ℕ → ℤ
   cost_of_hour k = cost (energy c l k) -ℤ cost 0 *ℤ pos (1 - v c l k)
 

@@ -148,7 +148,7 @@ spent c m =
 abbrev pub earned : Case → Marking → ℤ
 earned c m = sold c m -ℤ spent c m
 
--- the same by what an hour costs at its energy: the cost of every hour, less that of no energy for those off_line
+-- the same by what an hour costs at its energy: the cost of every hour, less that of no energy for those off-line
 abbrev pub spent_at : (ℕ → ℤ) → Case → Marking → ℤ
 spent_at cost c m =
     (sum_z (λ k. cost (m.p k + m.p (k - 1))) c.hours -ℤ cost 0 *ℤ pos (c.hours - sum (online c m) c.hours))

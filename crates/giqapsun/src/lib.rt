@@ -1,5 +1,7 @@
 // The C boundary (include/giqapsun.h): each call takes and gives structs by value, with no logic of its own. The
 // answers' numbers and values are those of model's specs/Answers; specs/Boundary lays them out.
+#![tactic(auto)]
+
 ghost use Rattle.std.specs.Prelude.{◌≡◌};
 ghost use Rattle.cases.specs.declared.Outcome.TheVariants.{Accepted};
 ghost use Rattle.cases.specs.Refusals.{work_length};
@@ -211,7 +213,7 @@ pub extern "C" fn giqapsun_best_4(case: Case, work: &mut [i64], outputs: &mut [u
     plan_out(best::schedule(codec::admit(case), work, outputs))
 }
 
-// The best list of a record on the day that a calendar orders: the on-line and the off_line windows, and the day's
+// The best list of a record on the day that a calendar orders: the on-line and the off-line windows, and the day's
 // first hour and number of hours. Nothing is changed on 14, 15, 2 to 8, 13 and 10.
 #[unsafe(no_mangle)]
 pub extern "C" fn giqapsun_best_by_calendar_4(

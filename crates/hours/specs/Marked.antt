@@ -8,7 +8,7 @@ pub record Online (p r : ℕ) : Type 0 where
   pub off : p ≡ 0 → r ≡ 0
   pub most : r ≤ 1
 
--- of the marks a and b of two outputs, r is 1 where the unit is off_line at the first and on-line at the second, else 0
+-- of the marks a and b of two outputs, r is 1 where the unit is off-line at the first and on-line at the second, else 0
 pub record Began (a b r : ℕ) : Type 0 where
   pub off : a ≡ 0 → r ≡ b
   pub on : 0 < a → r ≡ 0

@@ -37,7 +37,7 @@ fn online(p: Output) -> u8
     if 0 < p.0 { 1 } else { 0 }
 }
 
-// Of the marks of two outputs: 1 where the unit is off_line at the first and on-line at the second.
+// Of the marks of two outputs: 1 where the unit is off-line at the first and on-line at the second.
 fn began(first: u8, second: u8) -> u8
     ensures { Began first second result }
 {

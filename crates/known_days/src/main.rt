@@ -159,7 +159,7 @@ fn small(
     priced(initial, elapsed, mindown, hours, [price; HOURS], orders)
 }
 
-// The best list on a day of the year, by its on-line and off_line windows.
+// The best list on a day of the year, by its on-line and off-line windows.
 fn print_day(name: &[u8], reading: Reading, on: &[u16], off: &[u16], first: Hour, hours: Hour) {
     let mut work = [0i64; SHORT_WORK];
     let mut outputs = [0u16; HOURS];
@@ -206,7 +206,7 @@ fn plain(initial: Output, hours: Hour, price: Mills) -> Reading {
     small(initial, Hour(2), Hour(1), hours, price, [0u8; HOURS])
 }
 
-// An hour of the unit off_line, and of the unit at 2 MW.
+// An hour of the unit off-line, and of the unit at 2 MW.
 fn idle(price: Mills, order: u8) -> Reading {
     small(Output(0), Hour(2), Hour(1), Hour(1), price, [order; HOURS])
 }
@@ -273,7 +273,7 @@ fn print_refused_pairs() {
     print_better(b"refused case", refused, both, one);
 }
 
-// Below zero: staying off_line earns 0, and an order on-line is kept at a loss; above 65.535 dollars.
+// Below zero: staying off-line earns 0, and an order on-line is kept at a loss; above 65.535 dollars.
 fn print_prices() {
     print_best(b"-5 mills, free", idle(Mills(-5), 0));
     print_best(b"-5 mills, on-line", idle(Mills(-5), 1));
@@ -303,7 +303,7 @@ fn print_limits() {
     );
 }
 
-// A day of the unit off_line at a price of F, with one order for every hour: what is ordered on-line costs.
+// A day of the unit off-line at a price of F, with one order for every hour: what is ordered on-line costs.
 fn quiet(hours: Hour, order: u8) -> Reading {
     small(
         Output(0),
@@ -315,7 +315,7 @@ fn quiet(hours: Hour, order: u8) -> Reading {
     )
 }
 
-// From hour 100 of the year on, 24 hours with on-line windows, or with off_line windows, alone.
+// From hour 100 of the year on, 24 hours with on-line windows, or with off-line windows, alone.
 fn print_on(name: &[u8], reading: Reading, on: &[u16]) {
     print_day(name, reading, on, &[0u16; 0], Hour(100), Hour(24));
 }
@@ -356,7 +356,7 @@ fn print_replaced() {
     let own = quiet(day, 1);
     let late = small(Output(0), Hour(1), Hour(2), day, Mills(10), [0u8; HOURS]);
     let whole: &[u16] = &[100u16, 24];
-    print_off(b"own on-line, off_line by a window", own, whole);
+    print_off(b"own on-line, off-line by a window", own, whole);
     print_open(b"own on-line, no window", own, Hour(100), day);
     print_off(b"own order 3", quiet(day, 3), whole);
     print_on(b"too early", late, &[100u16, 1]);

@@ -1,4 +1,4 @@
--- The automaton's states as the machine's: hours off_line counted up to the minimum down time, hours to go before a
+-- The automaton's states as the machine's: hours off-line counted up to the minimum down time, hours to go before a
 -- stop may begin, and entries counted from 0. Definitions only.
 use Rattle.std.specs.Prelude.{List, [], ◌∷◌, ℕ, zero, suc, ◌+◌, ◌-◌, ◌≤◌, ◌<◌, min, ℤ, pos, ◌+ℤ◌}
 use Rattle.cases.specs.declared.Case.{Case}

@@ -6,7 +6,7 @@ use Rattle.cases.specs.Limits.{most_stages, most_hours, most_output, most_time}
 abbrev pub row_length : ℕ
 row_length = most_output
 
--- a side: the hours off_line from place 0 on, the start sequence, and the stop sequence
+-- a side: the hours off-line from place 0 on, the start sequence, and the stop sequence
 abbrev pub rises_at : ℕ
 rises_at = most_time + 1
 

@@ -1,4 +1,4 @@
--- The calendar of a year (request F-3): windows in which the unit is ordered on-line or off_line, a day whose orders
+-- The calendar of a year (request F-3): windows in which the unit is ordered on-line or off-line, a day whose orders
 -- are filled from them, and what the search of that day answers and leaves. Hours of the year count from 0, those of
 -- the day from 1. Definitions only. Assumes nothing.
 use Rattle.std.specs.Prelude.{Bool, true, false, ◌&&◌, ◌||◌, not, cond, List, [], ◌∷◌, ℕ, ◌+◌, leb, ltb, eqb, ℤ}
@@ -38,7 +38,7 @@ order_in on off t = cond (covers on t) 1 (cond (covers off t) 2 0)
 abbrev pub is_day : ℕ → ℕ → Bool
 is_day first hours = within short_day long_day hours && leb (first + hours) year_hours
 
--- the on-line and the off_line windows, and a day
+-- the on-line and the off-line windows, and a day
 module _ (on off : List ℕ) (first hours : ℕ) where
   -- the day, or the windows of either list
   unfoldable pub refusal14 : Bool

@@ -1,4 +1,4 @@
-// The orders that two lists of windows of a year, on-line and off_line, give the hours of a day (request F-3; model's
+// The orders that two lists of windows of a year, on-line and off-line, give the hours of a day (request F-3; model's
 // specs/Calendar). Lists or a day that are not as laid down are refused by 14, an hour of the day in both lists by 15.
 // Each number of a list is looked at once.
 #![tactic(auto)]

@@ -10,7 +10,7 @@ use Rattle.day.specs.Rules.{hours_since}
 use Rattle.cases.specs.Layout.{Opening, opening_of, remade, listed, no_mills}
 
 module _ (c : Case) (l : List ℕ) where
-  -- hours on-line, and off_line, at the end of hour T: since the latest start or stop of the day, or else h + T
+  -- hours on-line, and off-line, at the end of hour T: since the latest start or stop of the day, or else h + T
   unfoldable pub on_hours : ℕ
   on_hours = hours_since (h c) (y c l) (suc (last c)) (last c)
 

@@ -50,10 +50,10 @@ unrefused c = sym c.before.before.fill-filling.ensures.0 ∙ c.if-filling-ne0.fa
 
 returns-in_default : tie.Need-returns-in_default
 returns-in_default c =
-    let d = c.before.before.before in
+    let d = c.before.before in
     let a = (start d).args in
     left _ _ (calendar_of_unread a.reading.case _ _ _ _ a.work.now a.outputs.now (unrefused d)
-    c.before.enum-told2.given.1) (ap NotPlanned c.number.ensures, (refl, refl))
+    c.in_default.is) (ap NotPlanned c.number.ensures, (refl, refl))
 
 overflow_cast-hours : tie.Need-overflow_cast-hours
 overflow_cast-hours c = search rules

@@ -46,7 +46,7 @@ given e h = (
 returns-in_default : tie.Need-returns-in_default
 returns-in_default c =
     let told = c.before.in_default.is in
-    let d = c.before.before.before in
+    let d = c.before.before in
     let a = (start d).args in
     given (check_refused a.kind a.reading.case a.list.now a.table.now a.reading.outcome _
     (sym (said d) ∙ told)) (ap NotChecked (c.number.ensures ∙ ap outcome_number told), refl)
@@ -114,18 +114,18 @@ module _ (c : tie.After-fill) where
 
 slice_bounds-judge-end-2 : tie.Need-slice_bounds-judge-end-2
 slice_bounds-judge-end-2 c =
-    let f = c.before.before in
+    let f = c.before in
     omega (arith, length-take costs_length (left f), f.fill.auto.table, (ready f).if-table-lt-COSTS.false)
 
 judge-requires : tie.Need-judge-requires
 judge-requires c κs =
-    let f = c.before.before in
+    let f = c.before in
     let s = known f in
     (((passed s).within, (ready f).before.if-list-case.false), (kind (tests s), usable s, shown f))
 
 returns : tie.Need-returns
 returns c =
-    let f = c.before.before.before in
+    let f = c.before.before in
     let s = known f in
     let p = passed s in
     let a = (start (tests s)).args in

@@ -61,7 +61,7 @@ given e h =
 returns-in_default : tie.Need-returns-in_default
 returns-in_default c =
     let told = c.before.in_default.is in
-    let d = c.before.before.before in
+    let d = c.before.before in
     let a = (start d).args in
     given (schedule_refused a.kind a.reading.case a.table.now a.work.now a.outputs.now
     a.reading.outcome _ (sym (said d) ∙ told))
@@ -141,22 +141,22 @@ module _ (c : tie.After-fill) where
 
 slice_bounds-find-end-2 : tie.Need-slice_bounds-find-end-2
 slice_bounds-find-end-2 c =
-    let f = c.before.before in
+    let f = c.before in
     omega (arith, length-take costs_length (left f), f.fill.auto.table, (ready f).before.before.before.if-table-lt-COSTS.false)
 
 find-requires : tie.Need-find-requires
 find-requires c κs =
-    let f = c.before.before.before.before in
+    let f = c.before.before.before in
     let g = ready f in
     let w = known f in (
       (passed w).within,
-      ((w.work_of-n.ensures, g.before.before.if-work-n.left, g.if-outputs-case.left), (kind (tests w), usable w, shown f)),
+      ((w.work_of-n.ensures, g.before.before.if-work-n.false, g.if-outputs-case.false), (kind (tests w), usable w, shown f)),
     )
 
 returns : tie.Need-returns
 returns c =
     let i = c.before.before.before in
-    let f = i.before.before.before.before.before in
+    let f = i.before.before.before.before in
     let g = ready f in
     let w = known f in
     let p = passed w in
@@ -164,8 +164,8 @@ returns c =
     let r = i.find.ensures in
     given (read w
     ∙ schedule_by_curve_of_planned a.kind p.curve a.reading.case a.table.now a.work.now a.outputs.now
-    p.within g.before.before.before.if-table-lt-COSTS.left
-    (omega (arith, w.work_of-n.ensures, g.before.before.if-work-n.left)) g.if-outputs-case.left) (
+    p.within g.before.before.before.if-table-lt-COSTS.false
+    (omega (arith, w.work_of-n.ensures, g.before.before.if-work-n.false)) g.if-outputs-case.false) (
       r.0 a.kind (usable w) (shown f),
       (
         filled (usable w) (lent f) (drawn f),

@@ -40,7 +40,7 @@ module _ {U : Case} {T : ℕ} {past p y z : ℕ → ℕ} {obeys : ℕ → ℕ �
       sum_win (DD U) (later z (suc m)) (λ j. D.marks.z_le (suc m + j))
       (omega (arith, (keeps_at m l).hour.r9, on_le (p (suc m))))
 
-  -- an off_line hour has no stop in its window
+  -- an off-line hour has no stop in its window
   off_window : (m : ℕ) (l : suc m ≤ T) (t : ℕ) → Win (DD U) (later z (suc m)) t → p (suc m) ≡ 0 → t ≡ 0
   off_window m l zero w e = refl
   off_window m l (suc t) w e = absurd (omega (arith, rw e at (keeps_at m l).hour.r9, win_sum (suc t) w))

@@ -13,14 +13,14 @@ admit-requires c κs = search rules
 schedule-requires : tie.Need-schedule-requires
 schedule-requires c κs = search rules
 
-plan-out-requires : tie.Need-plan-out-requires
-plan-out-requires c κs = search rules
+plan_out-requires : tie.Need-plan_out-requires
+plan_out-requires c κs = search rules
 
-same_length : tie.Need-same-length
-same_length c = search rules
+shape_of-work : tie.Need-shape_of-work
+shape_of-work c = search rules
 
-same-length-2 : tie.Need-same-length-2
-same-length-2 c = search rules
+shape_of-outputs : tie.Need-shape_of-outputs
+shape_of-outputs c = search rules
 
 returns : tie.Need-returns
 returns c =
@@ -32,11 +32,11 @@ returns c =
     (λ r. schedule_of r.outcome r.case a.work.now a.outputs.now)
     admitted.admit.ensures
     ∙ schedule_admitted a.case a.work.now a.outputs.now in (
-      c.plan-out.ensures ∙ ap plan_out (d.0 ∙ ap (λ s. s.answer) e),
+      c.plan_out.ensures ∙ ap plan_out (d.0 ∙ ap (λ s. s.answer) e),
       (d.1.0 ∙ ap (λ s. s.work) e, d.1.1 ∙ ap (λ s. s.outputs) e),
     )
 
-pub giqapsun-best-4-spec : {M : Type 1} → statement M
-giqapsun-best-4-spec =
+pub giqapsun_best_4_spec : {M : Type 1} → statement M
+giqapsun_best_4_spec =
     tie.close
-    (tie.spec admit-requires schedule-requires plan-out-requires same_length same-length-2 returns)
+    (tie.spec admit-requires schedule-requires plan_out-requires shape_of-work shape_of-outputs returns)

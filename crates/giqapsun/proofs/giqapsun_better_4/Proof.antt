@@ -13,18 +13,18 @@ admit-requires c κs = search rules
 compare-requires : tie.Need-compare-requires
 compare-requires c κs = search rules
 
-choice-out-requires : tie.Need-choice-out-requires
-choice-out-requires c κs = search rules
+choice_out-requires : tie.Need-choice_out-requires
+choice_out-requires c κs = search rules
 
 returns : tie.Need-returns
 returns c =
     let a = c.before.before.before.before.before.args in
-    c.choice-out.ensures
+    c.choice_out.ensures
     ∙ ap choice_out
     (c.before.compare.ensures
     ∙ ap (λ r. compared_of r.outcome r.case a.first.now a.second.now) c.before.before.admit.ensures
     ∙ compare_admitted a.case a.first.now a.second.now)
 
-pub giqapsun-better-4-spec : {M : Type 1} → statement M
-giqapsun-better-4-spec =
-    tie.close (tie.spec admit-requires compare-requires choice-out-requires returns)
+pub giqapsun_better_4_spec : {M : Type 1} → statement M
+giqapsun_better_4_spec =
+    tie.close (tie.spec admit-requires compare-requires choice_out-requires returns)

@@ -13,18 +13,18 @@ admit-requires c κs = search rules
 check-requires : tie.Need-check-requires
 check-requires c κs = search rules
 
-verdict-out-requires : tie.Need-verdict-out-requires
-verdict-out-requires c κs = search rules
+verdict_out-requires : tie.Need-verdict_out-requires
+verdict_out-requires c κs = search rules
 
 returns : tie.Need-returns
 returns c =
     let a = c.before.before.before.before.args in
-    c.verdict-out.ensures
+    c.verdict_out.ensures
     ∙ ap verdict_out
     (c.before.check.ensures
     ∙ ap (λ r. check_of r.outcome r.case a.list.now) c.before.before.admit.ensures
     ∙ check_admitted a.case a.list.now)
 
-pub giqapsun-check-4-spec : {M : Type 1} → statement M
-giqapsun-check-4-spec =
-    tie.close (tie.spec admit-requires check-requires verdict-out-requires returns)
+pub giqapsun_check_4_spec : {M : Type 1} → statement M
+giqapsun_check_4_spec =
+    tie.close (tie.spec admit-requires check-requires verdict_out-requires returns)

@@ -8,11 +8,11 @@ use Rattle.giqapsun.proofs.giqapsun_read_4.Tie as tie
 read-requires : tie.Need-read-requires
 read-requires c κs = search rules
 
-reading-out-requires : tie.Need-reading-out-requires
-reading-out-requires c κs = search rules
+reading_out-requires : tie.Need-reading_out-requires
+reading_out-requires c κs = search rules
 
 returns : tie.Need-returns
-returns c = c.reading-out.ensures ∙ ap reading_out c.before.read.ensures
+returns c = c.reading_out.ensures ∙ ap reading_out c.before.read.ensures
 
-pub giqapsun-read-4-spec : {M : Type 1} → statement M
-giqapsun-read-4-spec = tie.close (tie.spec read-requires reading-out-requires returns)
+pub giqapsun_read_4_spec : {M : Type 1} → statement M
+giqapsun_read_4_spec = tie.close (tie.spec read-requires reading_out-requires returns)

@@ -9,11 +9,11 @@ use Rattle.giqapsun.proofs.reading_out.Tie as tie
 number-requires : tie.Need-number-requires
 number-requires c κs = search rules
 
-cast-t5 : tie.Need-overflow-cast-t5
-cast-t5 c = let fits : Fits w8 c.number.result = search rules in omega (arith, fits)
+overflow_cast-result : tie.Need-overflow_cast-result
+overflow_cast-result c = let fits : Fits w8 c.number.result = search rules in omega (arith, fits)
 
 returns : tie.Need-returns
 returns c = cc
 
-pub reading-out-spec : {M : Type 1} → statement M
-reading-out-spec = tie.close (tie.spec number-requires cast-t5 returns)
+pub reading_out_spec : {M : Type 1} → statement M
+reading_out_spec = tie.close (tie.spec number-requires overflow_cast-result returns)
