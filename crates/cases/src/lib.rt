@@ -1,6 +1,7 @@
 // The words that every other crate speaks in: the case record with the fields of the case file, and the answers. What a
 // case, a list and an answer mean is defined in specs/; specs/Promises says what holds of the definitions. No function
 // stands here, so that an edit of a definition proves laws alone again.
+#![tactic(auto)]
 
 use quantities::{HalfMills, Hour, Mills, Output};
 

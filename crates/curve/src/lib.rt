@@ -1,6 +1,7 @@
 // The boiler maker's cost curve (request F-7): a kind with its coefficients, the record that they travel in, and what
 // comes of taking and of using one. What an hour costs by a curve, and the table of its costs, are defined in specs/;
 // specs/Promises says what holds of them. No function.
+#![tactic(auto)]
 
 // Half-megawatt-hours: the energy of an hour, at the most; and the costs of a table, one for each energy from 0 on.
 pub const MOST_ENERGY: usize = 800;

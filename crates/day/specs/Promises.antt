@@ -1,6 +1,6 @@
 -- What holds of the rules and of the profit, one field for each promise; proofs/Promises proves them all. T b says that
 -- the test b passes. Definitions only. Assumes nothing.
-use Rattle.std.specs.Prelude.{◌≡◌, ◌↔◌, List, ◌++◌, ℕ, ◌+◌, ◌*◌, ◌≤◌, ◌<◌, T, ℤ, pos, ◌+ℤ◌, ◌*ℤ◌, length, get_or}
+use Rattle.std.specs.Prelude.{◌≡◌, ◌↔◌, List, ◌++◌, ℕ, ◌≤◌, ◌<◌, T, ℤ, pos, ◌+ℤ◌, ◌*ℤ◌, length, get_or}
 use Rattle.std.proofs.Math.Option.{some}
 use Rattle.cases.specs.declared.Case.{Case}
 use Rattle.cases.specs.declared.Breach.{Breach}

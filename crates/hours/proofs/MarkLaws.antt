@@ -6,7 +6,7 @@ use Prim.Native.Nat.{ℕ, zero, suc, ◌-◌, ◌≤◌, ◌<◌}
 use native.Mathlib.Nat.{eq-zero-or-pos}
 use native.Mathlib.Omega.{arith}
 use Rattle.cases.specs.declared.Case.{Case}
-use Rattle.cases.specs.Symbols.{before, last}
+use Rattle.cases.specs.Symbols.{last}
 use Rattle.day.specs.Marks.{p, v}
 use Rattle.day.proofs.MarksLaws.{v_on, v_off, y_zero, z_zero, y_after_off, y_after_on, z_at_off, z_at_on}
 use Rattle.cases.proofs.SymbolsLaws.{before_is}

@@ -68,7 +68,13 @@ fn print_list(rt: &impl Print, outputs: &[u16], n: usize) -> io::Result<()> {
 }
 
 // A plan, and the list that was found.
-fn print_plan(rt: &impl Print, name: &[u8], plan: Plan, case: Case, outputs: &[u16]) -> io::Result<()> {
+fn print_plan(
+    rt: &impl Print,
+    name: &[u8],
+    plan: Plan,
+    case: Case,
+    outputs: &[u16],
+) -> io::Result<()> {
     rt.write_all(name)?;
     match plan {
         Plan::Found(profit) => {
@@ -172,7 +178,15 @@ fn small(
 }
 
 // The best list on a day of the year, by its on-line and off-line windows.
-fn print_day(rt: &impl Print, name: &[u8], reading: Reading, on: &[u16], off: &[u16], first: Hour, hours: Hour) -> io::Result<()> {
+fn print_day(
+    rt: &impl Print,
+    name: &[u8],
+    reading: Reading,
+    on: &[u16],
+    off: &[u16],
+    first: Hour,
+    hours: Hour,
+) -> io::Result<()> {
     let mut work = [0i64; SHORT_WORK];
     let mut outputs = [0u16; HOURS];
     let case = reading.case;
@@ -190,7 +204,13 @@ fn print_day(rt: &impl Print, name: &[u8], reading: Reading, on: &[u16], off: &[
 }
 
 // Which of two lists to offer, and the part that is handed back.
-fn print_better<'a>(rt: &impl Print, name: &[u8], reading: Reading, first: &'a [u16], second: &'a [u16]) -> io::Result<()> {
+fn print_better<'a>(
+    rt: &impl Print,
+    name: &[u8],
+    reading: Reading,
+    first: &'a [u16],
+    second: &'a [u16],
+) -> io::Result<()> {
     rt.write_all(name)?;
     match offers::compare(reading, first, second) {
         Comparison::First(profit) => {
@@ -349,7 +369,13 @@ fn print_off(rt: &impl Print, name: &[u8], reading: Reading, off: &[u16]) -> io:
 }
 
 // With no window at all.
-fn print_open(rt: &impl Print, name: &[u8], reading: Reading, first: Hour, hours: Hour) -> io::Result<()> {
+fn print_open(
+    rt: &impl Print,
+    name: &[u8],
+    reading: Reading,
+    first: Hour,
+    hours: Hour,
+) -> io::Result<()> {
     print_day(rt, name, reading, &[0u16; 0], &[0u16; 0], first, hours)?;
     Ok(())
 }
@@ -490,7 +516,14 @@ fn staged(
 }
 
 // The best list of two hours at a price of F from an opening, or the refusal of the opening.
-fn print_opening(rt: &impl Print, name: &[u8], initial: Output, elapsed: Hour, upstage: u8, downstage: u8) -> io::Result<()> {
+fn print_opening(
+    rt: &impl Print,
+    name: &[u8],
+    initial: Output,
+    elapsed: Hour,
+    upstage: u8,
+    downstage: u8,
+) -> io::Result<()> {
     print_best(
         rt,
         name,
@@ -542,9 +575,21 @@ fn print_closings(rt: &impl Print) -> io::Result<()> {
     let three = Hour(3);
     let four = Hour(4);
     let five = Mills(5);
-    print_best(rt, b"closes at PD(2)", staged(low, three, 0, 0, one, one, five))?;
-    print_best(rt, b"closes at PD(3)", staged(low, three, 0, 0, one, two, five))?;
-    print_best(rt, b"closes at 0", staged(low, three, 0, 0, one, three, five))?;
+    print_best(
+        rt,
+        b"closes at PD(2)",
+        staged(low, three, 0, 0, one, one, five),
+    )?;
+    print_best(
+        rt,
+        b"closes at PD(3)",
+        staged(low, three, 0, 0, one, two, five),
+    )?;
+    print_best(
+        rt,
+        b"closes at 0",
+        staged(low, three, 0, 0, one, three, five),
+    )?;
     print_best(
         rt,
         b"opens and closes in a shut-down",

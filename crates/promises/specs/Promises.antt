@@ -18,7 +18,6 @@ use Rattle.promises.specs.Next.{another_day, next_day, both_days}
 use Rattle.model.specs.Printed.{ascii, printed_of}
 use Rattle.cases.specs.Published.{FirstRefused, word}
 use Rattle.model.specs.Windows.{CalendarLimited, calendar_order, GivesOrder}
-use Rattle.day.specs.Automaton.{first}
 use Rattle.promises.specs.Forecast.{with_prices, ordered, Row, Forecasts}
 use Rattle.promises.specs.Days.{case7, known_days, Answered}
 use Rattle.cases.specs.Promises.{Promises as CasesPromises}

@@ -1,5 +1,6 @@
 // The wrapped numbers, each with one unit: megawatts, hours, mills (thousandths of a dollar) and half-mills never stand
 // in for one another. Sums of outputs and of hours ask for room in 16 bits; differences stop at 0.
+#![tactic(auto)]
 
 ghost use Rattle.std.specs.Prelude.{◌≡◌, ◌+◌, ◌-◌, ◌<◌, min, max};
 ghost use Rattle.quantities.specs.Widths.{words};

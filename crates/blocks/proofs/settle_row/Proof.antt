@@ -2,7 +2,7 @@
 -- settled, and the others are as they were. Assumes nothing.
 use native.Mathlib.Omega.{arith}
 use mathlib.Core.Path.{◌≡◌, ap, ◌∙◌}
-use Prim.Native.Nat.{◌+◌, ◌-◌, ◌≤◌}
+use Prim.Native.Nat.{◌-◌, ◌≤◌}
 use lib.IntN.{ℤ, nat_abs, ◌+ℤ◌}
 use Rattle.machine.specs.Bounds.{most_line}
 use Rattle.window.specs.Rows.{Written, cells, sloped, settled}

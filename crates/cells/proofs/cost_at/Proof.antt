@@ -1,7 +1,7 @@
 -- `cells::cost_at` meets its contract: without a table every entry is 0. Assumes nothing.
 use native.Mathlib.Omega.{arith}
 use mathlib.Core.Path.{sym}
-use mathlib.Core.Logic.{◌⊎◌, ⊎_elim}
+use mathlib.Core.Logic.{⊎_elim}
 use lib.ListN.{get_or-eq_default}
 use Rattle.cells.proofs.cost_at.Statement.{statement}
 use Rattle.cells.proofs.cost_at.Tie as tie

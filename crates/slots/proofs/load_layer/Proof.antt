@@ -1,7 +1,6 @@
 -- `slots::load_layer` meets its contract: the row, and the side after it. Assumes nothing.
 use borrow.Author.Rules.{rules}
 use native.Mathlib.Omega.{arith}
-use Prim.Native.Nat.{◌-◌}
 use Rattle.slots.proofs.Slots.{layer_of}
 use Rattle.slots.proofs.load_layer.Statement.{statement}
 use Rattle.slots.proofs.load_layer.Tie as tie

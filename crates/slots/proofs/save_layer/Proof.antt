@@ -2,7 +2,6 @@
 use borrow.Author.Rules.{rules}
 use native.Mathlib.Omega.{arith}
 use mathlib.Core.Path.{◌∙◌}
-use Prim.Native.Nat.{◌-◌}
 use Rattle.slots.proofs.Slots.{kept_of}
 use Rattle.slots.proofs.save_layer.Statement.{statement}
 use Rattle.slots.proofs.save_layer.Tie as tie
