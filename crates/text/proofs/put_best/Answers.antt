@@ -11,7 +11,7 @@ use borrow.Author.Rules.{rules}
 use Rattle.cases.specs.declared.Case.{Case}
 use Rattle.cases.specs.Limits.{most_hours}
 use Rattle.quantities.specs.Widths.{words}
-use Rattle.model.specs.Printed.{profit_line, refused_line, hour_lines}
+use Rattle.model.specs.Printed.{profit_line, hour_lines}
 use Rattle.cases.proofs.LimitsLaws.{Limits}
 use Rattle.cases.proofs.StagesLaws.{initial_le}
 use Rattle.model.proofs.PrintedLaws.{length_refused_line, length_profit_line, length_hour_lines}
