@@ -2,7 +2,7 @@
 # bindings/build.sh [FOLDER]: builds the bindings in a folder, target/bindings if none is named: libgiqapsun.so for
 # Python, and the Rust crate under rust/.
 # The static library is libgiqapsun.a in the folder GIQAPSUN_LIB_DIR, or else in target/staticlib, where
-# `rt staticlib giqapsun` makes it.
+# `tools/build giqapsun` makes it.
 set -eu
 root=$(cd "$(dirname "$0")/.." && pwd)
 folder=${1:-$root/target/bindings}

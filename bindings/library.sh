@@ -33,7 +33,7 @@ if [ -z "${GIQAPSUN_LIB_DIR:-}" ]; then
         [ -n "$(find crates crates.txt -newer target/staticlib/libgiqapsun.a -print -quit)" ]; then
         command -v rt >/dev/null ||
             broken "no libgiqapsun.a: name its folder in GIQAPSUN_LIB_DIR, or install rt, which proves and builds it"
-        quietly staticlib rt staticlib giqapsun
+        quietly staticlib bash tools/build giqapsun
     fi
 fi
 [ -f "$GIQAPSUN_LIB_DIR/libgiqapsun.a" ] ||

@@ -13,7 +13,7 @@ pub fn main() {
     println!("cargo::rerun-if-changed={}", library.display());
     if !library.is_file() {
         let (missing, remedy) =
-            (library.display(), "run `rt staticlib giqapsun`, or set GIQAPSUN_LIB_DIR to its folder");
+            (library.display(), "run `tools/build giqapsun`, or set GIQAPSUN_LIB_DIR to its folder");
         println!("cargo::error={missing} is missing: {remedy}");
     }
     println!("cargo::rustc-link-search=native={}", folder.display());

@@ -123,7 +123,7 @@ class BestFaults(ToolTest):
 
     def test_program(self):
         self.file("d.case", CASE_7)
-        advice = "build it with `rt check best_day` or set GIQAPSUN_BEST_DAY"
+        advice = "build it with `tools/build best_day` or set GIQAPSUN_BEST_DAY"
         for name, what in [("none", "No such file or directory"), ("d.case", "Permission denied")]:
             runs = str(self.folder / name)
             self.at_fault(f"{runs}: {what}; {advice}", "best", "d.case", GIQAPSUN_BEST_DAY=runs)

@@ -238,7 +238,7 @@ class NotBuilt(ToolTest):
         last = f"read by this tool itself: the library is not built; found by the program {FAKE}"
         self.assertEqual((status, printed.decode().splitlines()[-1]), (0, last))
         program = self.folder.resolve() / "copy/target/bin/best_day"
-        advice = "build it with `rt check best_day` or set GIQAPSUN_BEST_DAY"
+        advice = "build it with `tools/build best_day` or set GIQAPSUN_BEST_DAY"
         self.assertEqual(
             self.run_copy("best", "d.case"), (2, b"", f"case: {program}: No such file or directory; {advice}\n")
         )

@@ -45,7 +45,7 @@ def literals(line):
 def faults(root):
     """Each literal with its place, and how many files were read."""
     found, files = [], 0
-    for path in sorted((root / "crates").glob("*/*/**/*")):
+    for path in sorted(p for part in ("src", "specs", "proofs") for p in (root / "crates").glob(f"*/{part}/**/*")):
         part = path.relative_to(root / "crates").as_posix()
         if path.suffix not in (".rt", ".antt") or part in NAMED + VIEWS:
             continue

@@ -14,17 +14,17 @@ class Literals(unittest.TestCase):
         self.assertEqual(constants.literals("  few : n ≤ 48"), ["48"])
         self.assertEqual(constants.literals("let row = [0i64; 400];"), ["400"])
         self.assertEqual(constants.literals("const MOST: u16 = 10000u16;"), ["10000u16"])
-        self.assertEqual(constants.literals("    requires { ⌜ x < 65536 ⌝ }"), ["65536"])
+        self.assertEqual(constants.literals("    requires { x < 65536 }"), ["65536"])
 
     def test_bounds_of_sums(self):
-        self.assertEqual(constants.literals("→ natAbs z ≤ 2 ^ 42"), ["2 ^ 42"])
-        self.assertEqual(constants.literals("→ natAbs z ≤ 10 ^ 19"), [])
+        self.assertEqual(constants.literals("→ nat_abs z ≤ 2 ^ 42"), ["2 ^ 42"])
+        self.assertEqual(constants.literals("→ nat_abs z ≤ 10 ^ 19"), [])
 
     def test_small_numbers_count_where_they_bound(self):
-        self.assertEqual(constants.literals("requires { ⌜ n ≤ 8 ⌝ }"), ["≤ 8"])
-        self.assertEqual(constants.literals("offset0 : offsetAt file 0 ≡ 16"), ["≡ 16"])
+        self.assertEqual(constants.literals("requires { n ≤ 8 }"), ["≤ 8"])
+        self.assertEqual(constants.literals("offset0 : offset_at file 0 ≡ 16"), ["≡ 16"])
         self.assertEqual(constants.literals("∷ (8, rule8 c l)"), [])
-        self.assertEqual(constants.literals("variable = numberAt unit 16 4"), [])
+        self.assertEqual(constants.literals("variable = number_at unit 16 4"), [])
 
     def test_comments_and_imports_have_none(self):
         self.assertEqual(constants.literals("// up to 4,096 bytes, 400 outputs"), [])

@@ -21,14 +21,20 @@ COMMENT = re.compile(r"^\s*(--|//).*$", re.MULTILINE)
 BACK = re.compile(r"(?:\s*\.before\b){5,}")
 NAMING = re.compile(r"(?:\blet [^\s:]+ =|^[ \t]*[^\s:=]+(?: [^\s:=]+)* =)\s+[^\s.()]+\s*$", re.MULTILINE)
 
+# files whose names rt asks for, and the record of promises
+UNCITED = ("Proof.antt", "Answers.antt", "Invariants.antt", "Promises.antt")
+
+# laws of the order of ℤ that stand beside those that are cited
+BESIDE = ("add_mono", "add_cancel")
+
 # what ends a word
-EDGE = r"[\s(){}\[\];,.λ]"
+EDGE = r"[\s(){}\[\];,.λ:]"
 
 
 def speaks(text, name):
     """Whether a word or an operator stands in a text."""
-    if name.startswith("_") or name.endswith("_"):
-        return all(part in text for part in name.split("_") if part)
+    if "◌" in name:
+        return all(part in text for part in name.split("◌") if part)
     return re.search(rf"(?:^|{EDGE}|[·]){re.escape(name)}(?:$|{EDGE})", text) is not None
 
 
@@ -38,7 +44,7 @@ def brought(text):
     for line in USE.finditer(text):
         for item in line.group(1).split(","):
             item = item.strip()
-            if item:
+            if item and item != "self":
                 names.append(item.split(" as ")[-1].strip())
     return names, USE.sub("", text)
 
@@ -62,9 +68,11 @@ def uncited(paths):
     everything = sum(words.values(), collections.Counter())
     found = []
     for path in paths:
-        if path.suffix != ".antt" or path.name in ("Proof.antt", "Promises.antt") or "proofs" not in path.parts:
+        if path.suffix != ".antt" or path.name in UNCITED or "proofs" not in path.parts:
             continue
         for indent, name, public in lemmas(path):
+            if name in BESIDE:
+                continue
             spoken = (everything if public else words[path])[name]
             word = re.escape(name)
             own = len(re.findall(rf"^{indent}(?:pub )?{word}(?: :| =|\s.* =$|\s.* = )", texts[path], re.MULTILINE))
@@ -84,7 +92,8 @@ def unnamed(path):
 
 
 def main():
-    paths = sorted(p for p in ROOT.glob("crates/**/*") if p.suffix in (".antt", ".rt"))
+    paths = sorted(p for part in ("src", "specs", "proofs") for p in ROOT.glob(f"crates/*/{part}/**/*"))
+    paths = [path for path in paths if path.suffix in (".antt", ".rt")]
     faults = [f"{path.relative_to(ROOT)}: {name} is brought in and not used" for path in paths for name in unused(path)]
     faults += [f"{path.relative_to(ROOT)}: nothing cites {name}" for path, name in uncited(paths)]
     proofs = [path for path in paths if path.suffix == ".antt" and "proofs" in path.parts]

@@ -180,7 +180,7 @@ def _answered(runs, file, data):
     try:
         done = subprocess.run([runs], input=data, capture_output=True, check=False)
     except OSError as error:
-        what = f"{error.strerror}; build it with `rt check best_day` or set GIQAPSUN_BEST_DAY"
+        what = f"{error.strerror}; build it with `tools/build best_day` or set GIQAPSUN_BEST_DAY"
         raise Fault(runs, None, None, what) from None
     lines = done.stdout.decode("ascii", "replace").splitlines()
     refused = re.fullmatch(r"refused ([0-9]{1,9})", lines[0]) if len(lines) == 1 else None
