@@ -52,6 +52,7 @@ fn first_orders(orders: [u8; HOURS], n: usize) -> [u8; HOURS]
 }
 
 // The record, within the limits, with the entries past its counts zero.
+#[inline(never)]
 pub(crate) fn zeroed(case: Case) -> Case
     requires { refusal_of case ≡ 0 }
     ensures { result ≡ zeroed case }

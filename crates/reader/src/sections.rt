@@ -127,6 +127,7 @@ fn read_unit(part: &[u8], rise: Trajectory, fall: Trajectory, day: Day) -> Case
 }
 
 // The case of a file whose sections follow one another and have lengths that fit.
+#[inline(never)]
 pub fn case_of(file: &[u8]) -> Case
     requires file_value { refusal1 file.now ≡ false }
     requires file_value_2 { refusal2_file file.now ≡ false }

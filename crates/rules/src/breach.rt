@@ -70,6 +70,7 @@ fn later_breach(case: Case, list: &[u16], starts: &[u8; COUNTS], stops: &[u8; CO
 }
 
 // The first breach of the day, for a list of T outputs; its rule is 0 where there is none.
+#[inline(always)]
 pub fn first_breach(case: Case, list: &[u16]) -> Breach
     requires case_value { refusal_of case ≡ 0 }
     requires list_len { length list.now ≡ case.hours }
