@@ -53,7 +53,7 @@ class Changes(unittest.TestCase):
         self.assertEqual(changes("abbrev pub f : ℕ\nf = rule12 c\n"), [("rule12", "rule1")])
 
     def test_fields(self):
-        found = changes("abbrev pub f : Case\nf = record { rises = c .rises; }\n")
+        found = changes("abbrev pub f : Case\nf = record { rises = c.rises; }\n")
         self.assertEqual(found, [(".rises", ".falls")])
 
     def test_hours(self):
@@ -99,8 +99,8 @@ class Brought(unittest.TestCase):
         folder = tempfile.TemporaryDirectory()
         self.addCleanup(folder.cleanup)
         self.paths = []
-        below = "use lib.Dec.{leb, ltb}\nuse Prim.Native.Nat.{ℕ, _-_}\n\nabbrev pub low : ℕ\nlow = 1\n"
-        above = "use lib.Dec.{leb}\nuse Rattle·model·specs.specs.Below.{low}\n\nabbrev pub high : ℕ\nhigh = low\n"
+        below = "use lib.Dec.{leb, ltb}\nuse Prim.Native.Nat.{ℕ, ◌-◌}\n\nabbrev pub low : ℕ\nlow = 1\n"
+        above = "use lib.Dec.{leb}\nuse Rattle.model.specs.Below.{low}\n\nabbrev pub high : ℕ\nhigh = low\n"
         for name, text in (("Below", below), ("Above", above)):
             path = pathlib.Path(folder.name) / f"{name}.antt"
             path.write_text(text, encoding="utf-8")
@@ -122,7 +122,7 @@ class Brought(unittest.TestCase):
 
     def test_operator(self):
         text, _ = self.completed("Above", "-")
-        self.assertIn("use Prim.Native.Nat.{_-_}\n", text)
+        self.assertIn("use Prim.Native.Nat.{◌-◌}\n", text)
 
     def test_name_from_above(self):
         text, _ = self.completed("Below", "high")
@@ -134,16 +134,16 @@ class Verdict(unittest.TestCase):
 
     def test_refused_for_their_own_sake(self):
         scratch = mutants.Scratch.__new__(mutants.Scratch)
-        scratch.home = pathlib.Path("/s/crates/model")
         said = (
             "note: nothing\n"
-            "/s/crates/model/proofs/Days.antt:1:2: error: `known-days`: expected type `A`\n"
+            "./proofs/Days.antt:1:2: error: `known_days`: expected type `A`\n"
             "  more of it\n"
-            "/s/crates/model/proofs/Days.antt:3:2: error: `known-days`: again\n"
-            "/s/crates/model/proofs/Promises.antt:1:2: error: `promises`: `known-days` was not admitted (it has\n"
+            "./proofs/Days.antt:3:2: error: `known_days`: again\n"
+            "./proofs/Promises.antt:1:2: error: 1 declaration that depends on `known_days`, which was not admitted, "
+            "was not checked: promises\n"
             "logic=not-proved\n"
         )
-        self.assertEqual(scratch.refused(said), ["proofs/Days.known-days"])
+        self.assertEqual(scratch.refused(said), ["proofs/Days.known_days"])
 
 
 if __name__ == "__main__":
