@@ -23,9 +23,11 @@ INSTRUCTION = re.compile(r" *[0-9a-f]+:\t(.+)")
 HELPER = re.compile(r"_*(u|s|i)?(div|mod|divmod)([a-z]{2}[34])?|l{0,2}div|imaxdiv|fmodf?|remainderf?|__aeabi_\w*div\w*")
 OUTSIDE = {"memcpy", "memset"}
 
-# what a program takes besides: its start and its end, input and output
-STARTED = {"__libc_start_main", "__cxa_finalize", "__gmon_start__", "read", "write"}
-STARTED |= {"_ITM_registerTMCloneTable", "_ITM_deregisterTMCloneTable"}
+# what a program takes besides: its start and its end, the processor that it asks for, input and output, and the words
+# of an error of these
+STARTED = {"__libc_start_main", "__cxa_finalize", "__gmon_start__", "__x86_get_cpuid_feature_leaf", "__sysv_signal"}
+STARTED |= {"_ITM_registerTMCloneTable", "_ITM_deregisterTMCloneTable", "read", "write", "__write", "lseek"}
+STARTED |= {"__errno_location", "__xpg_strerror_r"}
 
 # quotients and remainders of the code, by crate
 KEPT = {
@@ -37,8 +39,8 @@ KEPT = {
     "window": {"money::MISSING / 2"},
 }
 COMMENT = re.compile(r"//.*")
-CLAUSE = re.compile(r"⌜.*?⌝", re.DOTALL)
-GHOST = re.compile(r"^ghost use .*$", re.MULTILINE)
+CLAUSE = re.compile(r"^\s*(?:requires|ensures)\b[^{]*\{", re.MULTILINE)
+GHOST = re.compile(r"^ghost use [^;]*;", re.MULTILINE)
 BRACKETS = "()[]{};,"
 
 
@@ -78,10 +80,22 @@ def machine_faults(path, outside):
     return found + ["no code"] * (not code), len(code)
 
 
+def without_clauses(text):
+    """A text without its contracts: each clause goes to the bracket that closes it."""
+    while clause := CLAUSE.search(text):
+        end, depth = clause.end(), 1
+        while depth:
+            depth += (text[end] == "{") - (text[end] == "}")
+            end += 1
+        text = text[: clause.start()] + text[end:]
+    return text
+
+
 def quotients(text):
     """The quotients and remainders of a file of crates/, contracts and comments aside: the words about each sign."""
-    for pattern in (COMMENT, CLAUSE, GHOST):
+    for pattern in (COMMENT, GHOST):
         text = pattern.sub("", text)
+    text = without_clauses(text)
     words = [word.strip(BRACKETS) for word in text.split()]
     return {" ".join(words[i - 1 : i + 2]) for i, word in enumerate(words) if "/" in word or "%" in word}
 

@@ -73,7 +73,8 @@ class Code(unittest.TestCase):
         self.assertEqual(division.quotients(code), {"part.len / width", "x %= 3", "x % 256", "256 / at(n"})
 
     def test_contracts_and_comments_do_not(self):
-        code = "// a / b\nghost use Prim.Native.Nat.{_/_};\nfn f()\n    ensures { λ r. ⌜ r ≡\n a / b ⌝ }\n{\n}\n"
+        code = "// a / b\nghost use Rattle.std.specs.Prelude.{◌≡◌,\n ◌/◌};\nfn f()\n    requires less { T (g { 0 = a / b }) }\n"
+        code += "    ensures { result ≡\n a / b }\n{\n}\n"
         self.assertEqual(division.quotients(code), set())
 
     def held(self, kept):

@@ -12,7 +12,7 @@ class Bare(unittest.TestCase):
 
     def test_fields_parameters_and_results(self):
         code = "pub struct Numbers {\n    pub falling: u8,\n    pub output: Output,\n}\n"
-        code += "fn word(part: &[u8], at: usize) -> u16\n    requires { ⌜ at + 2 ≤ 4 ⌝ }\n{\n}\n"
+        code += "fn word(part: &[u8], at: usize) -> u16\n    requires { at + 2 ≤ 4 }\n{\n}\n"
         self.assertEqual(units.bare(code), {("falling", "u8"), ("at", "usize"), ("word()", "u16")})
 
     def test_arrays_constants_and_comments_do_not(self):

@@ -14,7 +14,6 @@ ROOT = pathlib.Path(__file__).resolve().parents[2]
 
 NUMBER = "u8|u16|u32|u64|usize|i8|i16|i32|i64|isize"
 COMMENT = re.compile(r"//.*")
-CLAUSE = re.compile(r"⌜.*?⌝", re.DOTALL)
 CONSTANT = re.compile(r"^\s*(?:pub )?const .*$", re.MULTILINE)
 NAMED = re.compile(rf"\b(\w+): ({NUMBER})\b")
 RESULT = re.compile(rf"\bfn (\w+)\([^)]*\) -> ({NUMBER})\b", re.DOTALL)
@@ -22,7 +21,7 @@ RESULT = re.compile(rf"\bfn (\w+)\([^)]*\) -> ({NUMBER})\b", re.DOTALL)
 
 def bare(text):
     """Each field, parameter and result of a file that is a plain number: its name, and its type."""
-    for pattern in (COMMENT, CLAUSE, CONSTANT):
+    for pattern in (COMMENT, CONSTANT):
         text = pattern.sub("", text)
     return set(NAMED.findall(text)) | {(f"{name}()", kind) for name, kind in RESULT.findall(text)}
 

@@ -24,6 +24,9 @@ use cases::{Case, HOURS, Outcome, Plan, Reading};
 use machine::{Charges, Rates, State, Unit};
 use quantities::HalfMills;
 
+// The number of a record that no refusal applies to.
+const ACCEPTED: u8 = 0;
+
 // The search in the first n working numbers; those past them stay as they are.
 fn search_first(
     u: Unit,
@@ -151,7 +154,7 @@ pub fn schedule(reading: Reading, work: &mut [i64], outputs: &mut [u16]) -> Plan
     };
     let case = reading.case;
     let refusal = limits::refusal_of(case);
-    if refusal != 0 {
+    if refusal != ACCEPTED {
         return Plan::Refused(refusal);
     }
     let n = limits::work_of(case);

@@ -12,6 +12,9 @@ ghost use Rattle.cases.specs.Reads.{reading_of, read_of, admit_of, write_of};
 use cases::{Case, HOURS, Outcome, Reading, STAGES, Written};
 use quantities::{Hour, Mills, Output};
 
+// The number of a record that no refusal applies to.
+const ACCEPTED: u8 = 0;
+
 // The record of zeros.
 fn blank() -> Case
     ensures { result ≡ blank }
@@ -93,7 +96,7 @@ pub fn write(case: Case, bytes: &mut [u8]) -> Written
     ensures bytes_after { bytes.new ≡ (write_of case bytes.old).lent }
 {
     let refusal = limits::refusal_of(case);
-    if refusal != 0 {
+    if refusal != ACCEPTED {
         return Written::Refused(refusal);
     }
     let n = writer::file_length(case);

@@ -16,6 +16,9 @@ use curve::{
 };
 use quantities::HalfMills;
 
+// How many numbers a table asks for.
+const ROOM: usize = COSTS;
+
 // The kind as a record.
 pub fn record_of(kind: Kind) -> Curve
     ensures { result ≡ record_of kind }
@@ -155,7 +158,7 @@ pub fn fill_table(kind: Kind, table: &mut [i64]) -> Filled
     if !accepts(curve) {
         return Filled::Refused(16);
     }
-    if table.len() < COSTS {
+    if table.len() < ROOM {
         return Filled::Refused(10);
     }
     fill(curve, table);

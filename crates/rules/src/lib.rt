@@ -17,6 +17,9 @@ use cases::{Case, Outcome, Reading, Verdict};
 use limits::refusal_of;
 use profit::profit_of;
 
+// The number of a record that no refusal applies to.
+const ACCEPTED: u8 = 0;
+
 // The verdict of a list, for a record within the limits.
 fn judge(case: Case, list: &[u16]) -> Verdict
     requires case_value { refusal_of case ≡ 0 }
@@ -41,7 +44,7 @@ pub fn check(reading: Reading, list: &[u16]) -> Verdict
     };
     let case = reading.case;
     let refusal = refusal_of(case);
-    if refusal != 0 {
+    if refusal != ACCEPTED {
         return Verdict::Refused(refusal);
     }
     if list.len() != case.hours {

@@ -12,6 +12,9 @@ ghost use Rattle.lines.specs.Puts.{Puts};
 
 use cases::{HOURS, INPUT, Plan, SHORT_WORK, Written};
 
+// How long an input may be.
+const MOST: usize = INPUT;
+
 // Bytes at the most (specs/Lines): of the profit's line, of an hour's, and of a text, which has a line for each hour.
 const PROFIT_LINE: usize = 28;
 
@@ -39,7 +42,7 @@ fn put_text(input: &[u8], out: &mut [u8; LONGEST]) -> usize
     ensures puts { Puts out.old 0 (printed_of input.now) out.new result }
     ensures upper_bound { result ≤ longest }
 {
-    if INPUT < input.len() {
+    if MOST < input.len() {
         return lines::put_refused(out, 1);
     }
     let mut work = [0i64; SHORT_WORK];

@@ -13,8 +13,8 @@ use Rattle.codec.proofs.write.Statement.{statement}
 use Rattle.codec.proofs.write.Tie as tie
 
 -- the record has no refusal
-within : (c : tie.Else-refusal-ne0) → refusal_of c.before.before.before.args.case ≡ 0
-within c = sym c.before.refusal_of-refusal.ensures ∙ c.if-refusal-ne0.false
+within : (c : tie.Else-refusal-ne-ACCEPTED) → refusal_of c.before.before.before.args.case ≡ 0
+within c = sym c.before.refusal_of-refusal.ensures ∙ c.if-refusal-ne-ACCEPTED.false
 
 -- and the bytes lent are enough for its file
 abbrev start : tie.Else-bytes-n → tie.Start
@@ -26,11 +26,11 @@ room c = omega (arith, c.before.file_length-n.ensures)
 refusal_of-refusal-requires : tie.Need-refusal_of-refusal-requires
 refusal_of-refusal-requires c κs = tt
 
-returns-then-refusal-ne0 : tie.Need-returns-then-refusal-ne0
-returns-then-refusal-ne0 c =
+returns-then-refusal-ne-ACCEPTED : tie.Need-returns-then-refusal-ne-ACCEPTED
+returns-then-refusal-ne-ACCEPTED c =
     let args = c.before.before.before.args in
     let number = c.before.refusal_of-refusal.ensures in
-    let e = write_of_refused args.case args.bytes.now (λ e. c.if-refusal-ne0.true (number ∙ e)) in
+    let e = write_of_refused args.case args.bytes.now (λ e. c.if-refusal-ne-ACCEPTED.true (number ∙ e)) in
     (ap Refused number ∙ ap (λ w. w.answer) e, ap (λ w. w.lent) e)
 
 file_length-n-requires : tie.Need-file_length-n-requires
@@ -64,7 +64,7 @@ write_spec =
     tie.close
     (tie.spec
     refusal_of-refusal-requires
-    returns-then-refusal-ne0
+    returns-then-refusal-ne-ACCEPTED
     file_length-n-requires
     returns-then-bytes-n
     put_case-requires

@@ -33,15 +33,15 @@ returns-then-not-accepts c =
     let a = answers_16 (k s) (lent s) (tested s ∙ not-true s.accepts.result c.if-not-accepts.true-raw) in
     (sym a.0, sym a.1)
 
-returns-then-table-lt-COSTS : tie.Need-returns-then-table-lt-COSTS
-returns-then-table-lt-COSTS c =
+returns-then-table-lt-ROOM : tie.Need-returns-then-table-lt-ROOM
+returns-then-table-lt-ROOM c =
     let s = c.before.before in
     let a = answers_10 (k s) (lent s) (tested s ∙ not-false s.accepts.result c.before.if-not-accepts.false-raw)
-    (omega (arith, c.if-table-lt-COSTS.true)) in
+    (omega (arith, c.if-table-lt-ROOM.true)) in
     (sym a.0, sym a.1)
 
 -- past both tests
-module _ (c : tie.Else-table-lt-COSTS) where
+module _ (c : tie.Else-table-lt-ROOM) where
   abbrev s : tie.After-accepts
   s = c.before.before
 
@@ -58,13 +58,13 @@ fill-requires : tie.Need-fill-requires
 fill-requires c κs =
     let d = c.before in
     let r = (s d).before.record_of-curve.ensures in
-    (true_to_t _ (ap accepted r ∙ passed d), omega (arith, d.if-table-lt-COSTS.false))
+    (true_to_t _ (ap accepted r ∙ passed d), omega (arith, d.if-table-lt-ROOM.false))
 
 returns : tie.Need-returns
 returns c =
     let d = c.before.before.before in
     let l = lent (s d) in
-    let a = answers_done (k (s d)) l (passed d) (omega (arith, d.if-table-lt-COSTS.false)) in
+    let a = answers_done (k (s d)) l (passed d) (omega (arith, d.if-table-lt-ROOM.false)) in
     let table : table_of (curved_of (s d).before.record_of-curve.result) ≡ table_of (k (s d)) =
     ap (λ (r : Curve). table_of (curved_of r)) (s d).before.record_of-curve.ensures ∙ record_table (usable d) in
     (sym a.0, c.before.fill.ensures ∙ ap (λ (t : List ℤ). t ++ drop costs_length l) table ∙ sym a.1)
@@ -76,7 +76,7 @@ fill_table_spec =
     (λ c κs. search rules)
     (λ c κs. search rules)
     returns-then-not-accepts
-    returns-then-table-lt-COSTS
+    returns-then-table-lt-ROOM
     fill-requires
     (λ c. search rules)
     returns)

@@ -11,20 +11,20 @@ returns-in_default c =
     ap NotChecked c.number.ensures
     ∙ sym (check_of_refused c.args.reading.case c.args.list.now c.in_default.is)
 
-pub returns-then-refusal-ne0 : goal.returns-then-refusal-ne0
-returns-then-refusal-ne0 c =
+pub returns-then-refusal-ne-ACCEPTED : goal.returns-then-refusal-ne-ACCEPTED
+returns-then-refusal-ne-ACCEPTED c =
     let case = c.args.reading.case in
     let l = c.args.list.now in
     ap NotChecked c.refusal_of-refusal.ensures
     ∙ sym (ap (λ o. check_of o case l) c.in-Accepted.is
-    ∙ check_of_outside case l (λ z. c.if-refusal-ne0.true (c.refusal_of-refusal.ensures ∙ z)))
+    ∙ check_of_outside case l (λ z. c.if-refusal-ne-ACCEPTED.true (c.refusal_of-refusal.ensures ∙ z)))
 
 pub returns-then-list-case : goal.returns-then-list-case
 returns-then-list-case c =
     let case = c.args.reading.case in
     let l = c.args.list.now in
     sym (ap (λ o. check_of o case l) c.in-Accepted.is
-    ∙ check_of_length case l (sym c.refusal_of-refusal.ensures ∙ c.if-refusal-ne0.false) c.if-list-case.true)
+    ∙ check_of_length case l (sym c.refusal_of-refusal.ensures ∙ c.if-refusal-ne-ACCEPTED.false) c.if-list-case.true)
 
 pub returns : goal.returns
 returns c =
@@ -32,4 +32,4 @@ returns c =
     let l = c.args.list.now in
     c.judge.ensures
     ∙ sym (ap (λ o. check_of o case l) c.in-Accepted.is
-    ∙ check_of_judged case l (sym c.refusal_of-refusal.ensures ∙ c.if-refusal-ne0.false) c.if-list-case.false)
+    ∙ check_of_judged case l (sym c.refusal_of-refusal.ensures ∙ c.if-refusal-ne-ACCEPTED.false) c.if-list-case.false)

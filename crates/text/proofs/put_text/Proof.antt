@@ -8,10 +8,10 @@ use Rattle.text.proofs.put_text.Tie as tie
 put_refused-requires : tie.Need-put_refused-requires
 put_refused-requires c κs = omega (arith, length_refused_line 1 (omega arith))
 
-returns-then-input-gt-INPUT : tie.Need-returns-then-input-gt-INPUT
-returns-then-input-gt-INPUT c =
+returns-then-input-gt-MOST : tie.Need-returns-then-input-gt-MOST
+returns-then-input-gt-MOST c =
     let taken = c.before.before in
-    let e = printed_of_long taken.before.before.args.input.now (omega (arith, taken.if-input-gt-INPUT.true)) in (
+    let e = printed_of_long taken.before.before.args.input.now (omega (arith, taken.if-input-gt-MOST.true)) in (
       rw e c.put_refused.ensures,
       omega (arith, c.put_refused.ensures.place, length_refused_line 1 (omega arith)),
     )
@@ -29,7 +29,7 @@ returns : tie.Need-returns
 returns c =
     let call = c.before.before in
     let left = call.before.before.before.before in
-    let e = printed_of_read left.before.before.args.input.now (omega (arith, left.if-input-gt-INPUT.false)) in
+    let e = printed_of_read left.before.before.args.input.now (omega (arith, left.if-input-gt-MOST.false)) in
     (rw e call.put_best.ensures.0, call.put_best.ensures.1)
 
 pub put_text_spec : {M : Type 1} → statement M
@@ -37,7 +37,7 @@ put_text_spec =
     tie.close
     (tie.spec
     put_refused-requires
-    returns-then-input-gt-INPUT
+    returns-then-input-gt-MOST
     slice_bounds-put_best-end
     slice_bounds-put_best-end-2
     put_best-requires
