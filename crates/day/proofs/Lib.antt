@@ -17,4 +17,5 @@ pub mod CostLaws
 pub mod BeforeLaws
 pub mod PastLaws
 pub mod SameDayLaws
+pub mod PricesLaws
 pub mod Promises

@@ -134,7 +134,7 @@ tested c (suc k) n = cond (ltb k c.hours) (within 1 12 n || within 21 23 n) (eqb
 abbrev pub KeepsAll : Case → Marking → Type 0
 KeepsAll c m = (k n : ℕ) → k < c.hours + c.falls → T (tested c k n) → Kept c m k n
 
--- what hours 1 to T sell their energy for, in half-mills, and what they spend: F for it, A, B and C for hours on_line,
+-- what hours 1 to T sell their energy for, in half-mills, and what they spend: F for it, A, B and C for hours on-line,
 -- starts and stops; so much is the profit
 abbrev pub sold : Case → Marking → ℤ
 sold c m = sum_z (λ k. priced c.prices k *ℤ pos (m.p k + m.p (k - 1))) c.hours

@@ -1,5 +1,5 @@
 // The refusals of a record, 2 to 8 and 13: one test for each number, and the first that applies; how many numbers its
-// search works in (cases' specs/Refusals); and the number of an outcome (specs/Answers).
+// search works in (cases' specs/Refusals); and the number of an outcome (cases' specs/Reads).
 #![tactic(auto)]
 
 ghost use Rattle.std.specs.Prelude.{false, cond, ◌≡◌, suc, ◌≤◌, ◌<◌, leb, eqb, pos, neg_ℤ};

@@ -1,6 +1,6 @@
 // The choice of an hour, from what the states after it are worth: looked up in the layer's slot, or in the layer or the
 // row of the lock that is kept. The definitions are those of machine's specs/Moves, cells' specs/Table, slots'
-// specs/Saved, locks' specs/Locked and kept's specs/Held. Each function is called by crates of this repository, which
+// specs/Saved, locks' specs/Locked and specs/Held. Each function is called by crates of this repository, which
 // keep what it asks for.
 #![tactic(auto)]
 

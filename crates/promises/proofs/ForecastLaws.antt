@@ -40,7 +40,8 @@ use Rattle.model.proofs.ScheduleLaws.{schedule_of_planned}
 use Rattle.model.proofs.AnswersLaws.{passes, keeps_of_passes, planned_list, planned_none}
 use Rattle.model.proofs.CalendarLaws.{filled_day}
 use Rattle.model.proofs.CurvesLaws.{schedule_by_curve_of_planned, keeps_of_curve_passes, curve_passes}
-use Rattle.promises.proofs.PricesLaws.{keeps_prices, profit_of_gain, profit_by_gain, gain_no_lower, gain_apart}
+use Rattle.day.proofs.PricesLaws.{keeps_prices}
+use Rattle.promises.proofs.PricesLaws.{profit_of_gain, profit_by_gain, gain_no_lower, gain_apart}
 use Rattle.promises.proofs.PricesLaws.{best_no_lower, best_regret, best_raised, best_raised_at, earns_half_way}
 use Rattle.promises.proofs.PricesLaws.{best_half_way}
 

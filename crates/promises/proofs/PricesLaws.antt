@@ -1,7 +1,7 @@
 -- A record with other prices: the lists that keep the rules are the same, and what a list earns changes by what the
 -- prices differ by, over its energy. Of any earnings that change so, what the best lists of two and of three rows of
 -- prices have to do with one another. Assumes nothing.
-use mathlib.Core.Path.{◌≡◌, refl, ap, subst, ◌∙◌}
+use mathlib.Core.Path.{◌≡◌, ap, subst, ◌∙◌}
 use mathlib.Core.Bool.{Bool}
 use mathlib.Core.List.{List}
 use Prim.Native.Nat.{ℕ, zero, suc, ◌+◌, ◌*◌, ◌-◌, ◌≤◌}
@@ -11,12 +11,8 @@ use lib.Signed.{◌≤ℤ◌}
 use Rattle.laws.proofs.Signed.{linear, parts_add, parts_sub, parts_mul, parts_pos}
 use Rattle.cases.specs.declared.Case.{Case}
 use Rattle.quantities.specs.declared.Mills.{Mills}
-use Rattle.cases.specs.Symbols.{before, priced, last, high, DD}
+use Rattle.cases.specs.Symbols.{before, priced, last, high}
 use Rattle.day.specs.Marks.{p, v, y, y_back, starting, closes, z}
-use Rattle.day.specs.Constraints.{stopping, start_output, stop_output, stops_within}
-use Rattle.day.specs.Constraints.{rule1, rule2, rule3, rule4, rule5, rule6, rule7, rule8, rule9, rule10}
-use Rattle.day.specs.Constraints.{rule11, rule12}
-use Rattle.day.specs.Rules.{rule21, rule22, rule23, day_rules, rules_at, broken_at, breach_from, breach, keeps}
 use Rattle.day.specs.Profit.{energy, profit_of, profit_by}
 use Rattle.model.specs.Best.{Best}
 use Rattle.day.specs.Words.{Marking, marking_of, sold, spent, spent_at}
@@ -28,22 +24,6 @@ use Rattle.day.proofs.CostLaws.{profit_by_earned}
 use Rattle.model.proofs.BestLaws.{best_most}
 use Rattle.promises.proofs.RowsLaws.{term_cancel, sum_z_same, over_pos, over_constant, over_one, over_differ}
 use Rattle.promises.proofs.RowsLaws.{over_apart}
-
--- ---- the rules do not know prices
-module _ (c : Case) (f : List Mills) (l : List ℕ) where
-  broken_at_prices : (k : ℕ) → broken_at (with_prices c f) l k ≡ broken_at c l k
-  unfolding broken_at rules_at day_rules rule1 rule2 rule3 rule4 rule5 rule6 rule7 rule8 rule9 rule10 rule11 rule12 rule21
-      rule22 rule23 stopping start_output stop_output stops_within z closes starting y_back y v p
-  broken_at_prices k = refl
-
-  breach_from_prices : (n k : ℕ) → breach_from (with_prices c f) l k n ≡ breach_from c l k n
-  unfolding breach_from
-  breach_from_prices zero k = refl
-  breach_from_prices (suc n) k = rw (broken_at_prices k, breach_from_prices n (suc k))
-
-  pub keeps_prices : keeps (with_prices c f) l ≡ keeps c l
-  unfolding keeps breach
-  keeps_prices = rw (breach_from_prices (last c + DD c) 0)
 
 -- ---- what a list earns
 module _ (c : Case) (f g : List Mills) (l : List ℕ) where

@@ -31,7 +31,7 @@ padded_rest d f n size i h = go (dec_lt i size)
     go (yes l) = get_d_padded_past d f n size d i h l
     go (no l) = get_or-eq_default (padded d f n size) d (omega (arith, length_padded d f n size))
 
--- an order allows an output: on_line unless it is 2, off-line unless it is 1
+-- an order allows an output: on-line unless it is 2, off-line unless it is 1
 allows_of : (o q : ℕ) → (o ≡ 1 → 1 ≤ q) → (o ≡ 2 → q ≡ 0) → cond (eqb q 0) (not (eqb o 1)) (not (eqb o 2)) ≡ true
 allows_of o zero f g = ap not (ne_eqb o 1 (λ e. omega (arith, f e)))
 allows_of o (suc q) f g = rw (eqb-suc-zero q) (ap not (ne_eqb o 2 (λ e. omega (arith, g e))))
