@@ -1,6 +1,5 @@
--- A record with other prices: the lists that keep the rules are the same, and what a list earns changes by what the
--- prices differ by, over its energy. Of any earnings that change so, what the best lists of two and of three rows of
--- prices have to do with one another. Assumes nothing.
+-- A record with other prices: what a list earns changes by what the prices differ by, over its energy. Of any earnings
+-- that change so, what the best lists of two and of three rows of prices have to do with one another. Assumes nothing.
 use mathlib.Core.Path.{◌≡◌, ap, subst, ◌∙◌}
 use mathlib.Core.Bool.{Bool}
 use mathlib.Core.List.{List}
