@@ -8,7 +8,6 @@ use lib.IntN.{ℤ}
 use lib.ListN.{length, drop}
 use lib.Signed.{le_z}
 use Rattle.cases.specs.declared.Case.{Case}
-use Rattle.cases.specs.declared.Plan.TheVariants.{Found as Planned, Refused}
 use Rattle.day.specs.Profit.{profit_of, profit_by, plain_cost}
 use Rattle.model.specs.Best.{best_by, best_day}
 use Rattle.cases.specs.Refusals.{work_length, refusal_of}
@@ -27,6 +26,8 @@ use Rattle.machine.proofs.Bridge.FitLaws.{fit_of_limits, fair_of_limits}
 use Rattle.machine.proofs.Bridge.Bests.{worth_profit, worth_none, plan_at_best, length_plan_at, best_early}
 use Rattle.cells.specs.Table.{Found}
 use Rattle.best.specs.Searched.{searched_by}
+use Rattle.quantities.specs.Outcomes.{Refused}
+use Rattle.std.specs.Prelude.{Ok}
 
 -- a worth of a day is above the code of none
 amount_above : (v : ℤ) → Bounded most_worth (some v) → le_z v missing ≡ false
@@ -65,32 +66,38 @@ module _ (c : Case) (e : refusal_of c ≡ 0) (late : stops_early c ≡ false) {r
 
   -- and where it is a profit
   pub find_some : le_z z missing ≡ false
-      → (Planned (record { 0 = z }) ≡ (wanted best).answer) × (zs ≡ (wanted best).outputs)
+      → (Ok (record { 0 = z }) ≡ (wanted best).answer) × (zs ≡ (wanted best).outputs)
   unfolding planned unit_of
   find_some t = go best refl
     where
       go : (r : Option (List ℕ)) → best ≡ r
-          → (Planned (record { 0 = z }) ≡ (wanted r).answer) × (zs ≡ (wanted r).outputs)
+          → (Ok (record { 0 = z }) ≡ (wanted r).answer) × (zs ≡ (wanted r).outputs)
       go none d = absurd (true≢false (sym (absent d) ∙ t))
       go (some l) d =
           let w = worth_profit c e late pays l d in
           let plan = plan_at_best c e late pays l d in
           let long : c.hours ≡ length l = sym (length_plan_at c e late pays l d) ∙ ap length plan in (
-            ap (λ v. Planned (record { 0 = v })) (found.profit ∙ ap coded w),
+            ap (λ v. Ok (record { 0 = v })) (found.profit ∙ ap coded w),
             found.list ∙ ap (maybe ys _) w ∙ ap (λ x. x ++ drop c.hours ys) plan ∙ ap (λ n. l ++ drop n ys) long,
           )
 
 -- zeroing the first numbers asks only what stands past them
-pub cleared_past : (n : ℕ) (xs ys : List ℤ) → drop n ys ≡ drop n xs → cleared n ys ≡ cleared n xs
+cleared_past : (n : ℕ) (xs ys : List ℤ) → drop n ys ≡ drop n xs → cleared n ys ≡ cleared n xs
 unfolding cleared
 cleared_past n xs ys e = rw e
 
 -- the working numbers are zeroed, whether a list is found or not
-pub planned_work : (c : Case) (earns : List ℕ → ℤ) (work : List ℤ) (ys : List ℕ) (r : Option (List ℕ))
+planned_work : (c : Case) (earns : List ℕ → ℤ) (work : List ℤ) (ys : List ℕ) (r : Option (List ℕ))
     → (planned c earns work ys r).work ≡ cleared (work_length c) work
 unfolding planned
 planned_work c earns work ys none = refl
 planned_work c earns work ys (some l) = refl
+
+-- so they are where the first n are zeroed of what the search left, or of what was lent
+pub planned_clear : (c : Case) (earns : List ℕ → ℤ) (n : ℕ) (work zs : List ℤ) (ys : List ℕ) (r : Option (List ℕ))
+    → n ≡ work_length c → drop n zs ≡ drop n work → cleared n zs ≡ (planned c earns work ys r).work
+planned_clear c earns n work zs ys r e same =
+    cleared_past n work zs same ∙ ap (λ m. cleared m work) e ∙ sym (planned_work c earns work ys r)
 
 -- a day whose opening stop comes too early
 module _ (c : Case) (earns : List ℕ → ℤ) (e : refusal_of c ≡ 0) (early : stops_early c ≡ true) (work : List ℤ)

@@ -1,6 +1,6 @@
 -- What a block leaves out is no better than what it looks at, for each place of the block; so the most that its window
 -- offers is among the rest. Assumes nothing.
-use mathlib.Core.Path.{◌≡◌, refl, ◌∙◌, subst}
+use mathlib.Core.Path.{◌≡◌, refl, subst}
 use mathlib.Core.Bool.{Bool, true, false}
 use mathlib.Core.Logic.{◌⊎◌, inl, inr}
 use mathlib.Core.List.{List}
@@ -13,9 +13,9 @@ use lib.Signed.{◌≤ℤ◌, ≤ℤ_refl}
 use Rattle.laws.proofs.Signed.{linear, parts_sub, parts_pos, le_z_trans}
 use Rattle.laws.proofs.RangeLaws.{larger_of_ge, largest_floor, largest_empty, largest_join}
 use Rattle.machine.specs.Coded.{missing}
-use Rattle.blocks.specs.Offers.{slack, offered, Ready}
+use Rattle.blocks.specs.Offers.{slack, offered}
 use Rattle.blocks.specs.Cuts.{most_of, top_of, Offers, Under, parts_of, Enough}
-use Rattle.blocks.proofs.OfferLaws.{ready_less, worse_up, worse_down}
+use Rattle.blocks.proofs.OfferLaws.{Ready, ready_less, worse_up, worse_down}
 use Rattle.blocks.proofs.TopLaws.{Matched, largest_part}
 
 lt_or_ge : (k b : ℕ) → (k < b) ⊎ (b ≤ k)
@@ -152,10 +152,3 @@ module _ {xs costs : List ℤ} {base n rd ru s r : ℕ} where
           let end = largest_empty missing f n b (omega arith) in
           let low = larger_of_ge (largest_floor missing f a b) in
           rw (m, mid, end, low, low)
-
--- what is found at place p of the block, over its window a to before b
-pub enough_at : {xs costs : List ℤ} {base n rd ru s r left low high right : ℕ}
-    → Enough xs costs base n rd ru s r left low high right → {p a b : ℕ} {v : ℤ} → s ≤ p → p ≤ r → a ≡ p - rd
-    → b ≡ min (p + ru + 1) n → v ≡ parts_of xs costs (base + p) a b left low high right
-    → v ≡ top_of xs costs base n rd ru p
-enough_at k {p} h l ea eb e = e ∙ rw (ea, eb) (k.is p h l)

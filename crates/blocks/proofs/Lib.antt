@@ -3,3 +3,4 @@ pub mod OfferLaws
 pub mod TopLaws
 pub mod CutLaws
 pub mod SweepLaws
+pub mod SourceLaws

@@ -5,12 +5,21 @@ use mathlib.Core.List.{List}
 use Prim.Native.Nat.{ℕ, ◌+◌, ◌-◌, ◌≤◌, ◌<◌}
 use native.Mathlib.Omega.{arith}
 use lib.IntN.{ℤ, pos, nat_abs, ◌+ℤ◌, ◌-ℤ◌}
+use lib.ListN.{length}
 use lib.Signed.{◌≤ℤ◌}
 use Rattle.laws.proofs.Signed.{linear, parts_add, parts_sub, parts_pos}
 use Rattle.laws.proofs.Magnitude.{abs_sub}
-use Rattle.window.specs.Rows.{cells}
-use Rattle.blocks.specs.Offers.{slack, offered, offer_room, Ready}
+use Rattle.machine.specs.Bounds.{most_energy}
+use Rattle.window.specs.Rows.{cells, Roomy}
+use Rattle.blocks.specs.Offers.{slack, Bent, offered, offer_room}
 use Rattle.blocks.specs.Cuts.{Offers}
+
+-- the first b places can offer where the table is read from `at` on
+pub record Ready (xs costs : List ℤ) (at b : ℕ) : Type 0 where
+  pub long : b ≤ length xs
+  pub roomy : Roomy xs b
+  pub reach : at + b ≤ most_energy + 1
+  pub bent : Bent costs
 
 -- fewer places, read from a lower place of the table
 pub ready_less : {xs costs : List ℤ} {at b : ℕ} → Ready xs costs at b → (l a : ℕ) → l ≤ at → a ≤ b → Ready xs costs l a

@@ -15,10 +15,10 @@ use Rattle.machine.specs.Bounds.{most_energy}
 use Rattle.machine.specs.Coded.{missing}
 use Rattle.window.specs.Rows.{Written, cells, sloped, settled, Sized}
 use Rattle.window.proofs.RowLaws.{written_in}
-use Rattle.blocks.specs.Offers.{Bent, offered, offer_room, Ready}
+use Rattle.blocks.specs.Offers.{Bent, offered, offer_room}
 use Rattle.blocks.specs.Sweeps.{reduced, Swept}
 use Rattle.blocks.specs.Cuts.{top_of, Topped}
-use Rattle.blocks.proofs.OfferLaws.{offered_abs}
+use Rattle.blocks.proofs.OfferLaws.{Ready, offered_abs}
 
 -- two pieces that meet
 pub written_join : {xs ys zs : List ℤ} {b c : ℕ} {v : ℕ → ℤ} → Written xs ys 0 b v → Written ys zs b c v → b ≤ c

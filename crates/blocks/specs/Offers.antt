@@ -1,7 +1,7 @@
 -- What a place of a row offers by a table of costs. Definitions only. Assumes nothing.
 use Rattle.std.specs.Prelude.{ℕ, ◌+◌, ◌≤◌, ◌<◌, List, ℤ, pos, nat_abs, ◌+ℤ◌, ◌-ℤ◌, length, ◌≤ℤ◌}
 use Rattle.machine.specs.Bounds.{most_energy, most_cost}
-use Rattle.window.specs.Rows.{cells, room, Roomy}
+use Rattle.window.specs.Rows.{cells, room}
 
 -- half-mills: what a table may lack to bending upwards
 abbrev pub slack : ℕ
@@ -21,10 +21,3 @@ offered xs costs at q = cells xs q -ℤ cells costs (at + q)
 -- the size of an offer, at the most
 abbrev pub offer_room : ℕ
 offer_room = room + most_cost
-
--- the first b places can offer where the table is read from `at` on
-pub record Ready (xs costs : List ℤ) (at b : ℕ) : Type 0 where
-  pub long : b ≤ length xs
-  pub roomy : Roomy xs b
-  pub reach : at + b ≤ most_energy + 1
-  pub bent : Bent costs

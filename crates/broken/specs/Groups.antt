@@ -1,13 +1,18 @@
--- The rules of an hour in groups, each by its number and its test, before the rules that follow. Definitions only.
--- Assumes nothing.
+-- The rules of an hour in groups, each by its number and its test, before the rules that follow, and the first of them
+-- that an hour breaks. Definitions only. Assumes nothing.
 use Rattle.std.specs.Prelude.{Bool, List, [], ◌∷◌, ℕ}
 use Rattle.cases.specs.declared.Case.{Case}
 use Rattle.day.specs.Constraints.{rule1, rule2, rule3, rule4, rule5, rule6}
 use Rattle.day.specs.Constraints.{rule7, rule8, rule9, rule10, rule11, rule12}
-use Rattle.day.specs.Rules.{rule21, rule22, rule23}
+use Rattle.day.specs.Rules.{broken_of, rule21, rule22, rule23}
+use Rattle.hours.specs.declared.numbered.NumberedHour.{NumberedHour}
 
 abbrev pub Rules : Type 0
 Rules = List (ℕ × (ℕ → Bool))
+
+-- the number of the first that the hour breaks, 0 where it breaks none
+abbrev pub broken_in : NumberedHour → Rules → ℕ
+broken_in h = broken_of h.hour.0
 
 module _ (c : Case) (l : List ℕ) where
   -- what hour 0 keeps

@@ -13,21 +13,21 @@ use quantities::Output;
 pub fn both(a: u8, b: u8) -> u16
     ensures { result ≡ a + b }
 {
-    (a as u16) + (b as u16)
+    u16::from(a) + u16::from(b)
 }
 
 // An output in more bits.
 fn wide(output: Output) -> u64
     ensures { (result ≡ output.0) × (result < words) }
 {
-    output.0 as u64
+    u64::from(output.0)
 }
 
 // An output, so many times.
 fn times(output: Output, n: u8) -> u64
     ensures { (result ≡ output.0 * n) × (result ≤ words * 256) }
 {
-    (output.0 as u64) * (n as u64)
+    u64::from(output.0) * u64::from(n)
 }
 
 // An output, as often as two counts say together.

@@ -2,11 +2,11 @@
 // hour.
 ghost use Rattle.std.specs.Prelude.{◌≡◌, ◌&&◌, ◌||◌, List, ℕ, ◌+◌, ◌<◌, leb, eqb};
 ghost use Rattle.quantities.specs.Widths.{words};
-ghost use Rattle.hours.specs.Numbered.{Numbered};
+ghost use Rattle.hours.specs.Of.{case_of, list_of};
 ghost use Rattle.broken.specs.Elapsed.{Held, Elapsed};
 
 use cases::Case;
-use hours::Numbers;
+use hours::numbered::NumberedHour;
 use quantities::Hour;
 
 // At an hour: the hours since the latest start before it, and since the latest stop; with none, h and the hours passed.
@@ -17,8 +17,8 @@ pub struct Since {
 }
 
 // At hour 1.
-pub fn opening(case: Case) -> Since
-    ensures { (l : List ℕ) → Elapsed case l 1 result }
+pub fn opening(case: &Case) -> Since
+    ensures { (l : List ℕ) → Elapsed case.now l 1 result }
 {
     let held = case.elapsed;
     Since {
@@ -36,17 +36,16 @@ pub fn later(hours: Hour, mark: u8) -> Hour
     if mark == 1 { Hour(1) } else { hours.next() }
 }
 
-// At the hour after hour k, whose numbers are given.
-pub fn passed(since: Since, n: Numbers) -> Since
+// At the hour after an hour.
+pub fn passed(since: Since, hour: &NumberedHour<'_>) -> Since
     requires { (since.start.0 + 1 < words) × (since.stop.0 + 1 < words) }
-    ensures { (c : Case) (l : List ℕ) (k : ℕ) → 0 < k → Numbered c l k n → Elapsed c l k since
-        → Elapsed c l (k + 1) result }
+    ensures { 0 < hour.now.hour.0 → Elapsed (case_of hour.now) (list_of hour.now) hour.now.hour.0 since
+        → Elapsed (case_of hour.now) (list_of hour.now) (hour.now.hour.0 + 1) result }
 {
-    let start = later(since.start, n.marks.start);
-    let stop = later(since.stop, n.marks.stop);
+    let marks = hour.numbers.marks;
     Since {
-        start: start,
-        stop: stop,
+        start: later(since.start, marks.start),
+        stop: later(since.stop, marks.stop),
     }
 }
 
@@ -54,10 +53,10 @@ pub fn passed(since: Since, n: Numbers) -> Since
 pub fn kept_time(mark: u8, least: Hour, since: Hour) -> bool
     ensures { result ≡ (eqb mark 0 || leb least.0 since.0) }
 {
-    (mark == 0) | (least.0 <= since.0)
+    (mark == 0) | (least <= since)
 }
 
-// Rule 23: the order of an hour.
+// Rule 23: the order of an hour, by the definitions' numbers.
 pub fn kept_order(order: u8, online: u8) -> bool
     ensures { result ≡ (eqb order 0 || (eqb order 1 && eqb online 1 || eqb order 2 && eqb online 0)) }
 {

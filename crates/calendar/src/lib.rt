@@ -6,16 +6,14 @@ ghost use Rattle.std.specs.Prelude.{◌≡◌};
 ghost use Rattle.cases.specs.Layout.{with_arrays};
 ghost use Rattle.model.specs.Calendar.{calendar_of};
 
-use cases::{Case, HOURS, Outcome, Plan, Reading};
-use quantities::Hour;
+use cases::{Case, HOURS, Reading};
+use quantities::{HalfMills, Hour, Refusal};
 
 // The record with these orders in place of its own.
 fn ordered(case: Case, orders: [u8; HOURS]) -> Case
     ensures { result ≡ with_arrays case case.rise case.fall case.prices orders }
 {
-    let mut day = case;
-    day.orders = orders;
-    day
+    Case { orders, ..case }
 }
 
 // The best list of the case of a reading, on the day that the calendar orders. After 14 and 15 a refused reading is
@@ -29,7 +27,7 @@ pub fn schedule_by_calendar(
     hours: Hour,
     work: &mut [i64],
     outputs: &mut [u16],
-) -> Plan
+) -> Result<HalfMills, Refusal>
     ensures answer { result ≡ (calendar_of reading.outcome reading.case on.now off.now
         first.0 hours.0 work.old outputs.old).answer }
     ensures work { work.new
@@ -39,25 +37,19 @@ pub fn schedule_by_calendar(
         ≡ (calendar_of reading.outcome reading.case on.now off.now first.0 hours.0
         work.old outputs.old).outputs }
 {
-    let filling = orders::fill(on, off, first, hours);
-    if filling.number != 0 {
-        return Plan::Refused(filling.number);
-    }
+    let orders = orders::fill(on, off, first, hours)?;
+    // the form that document 01 names
     let outcome = reading.outcome;
-    let Outcome::Accepted = outcome else {
-        return Plan::Refused(limits::number(outcome));
+    let Ok(()) = outcome else {
+        return Err(outcome.unwrap_err());
     };
     let case = reading.case;
     if case.hours != hours.0 as usize {
-        return Plan::Refused(2);
+        return Err(Refusal(2));
     }
-    let refusal = limits::refusal_of(case);
-    if refusal != 0 {
-        return Plan::Refused(refusal);
-    }
-    let orders = filling.orders;
+    limits::tested(&case)?;
     let day = Reading {
-        outcome: Outcome::Accepted,
+        outcome: Ok(()),
         case: ordered(case, orders),
     };
     best::schedule(day, work, outputs)

@@ -14,7 +14,6 @@ use Rattle.laws.proofs.Tests.{both}
 use Rattle.cases.specs.declared.Case.{Case}
 use Rattle.quantities.specs.declared.Output.{Output}
 use Rattle.cases.specs.declared.Reading.{Reading}
-use Rattle.cases.specs.declared.Outcome.TheVariants.{Accepted, Refused}
 use Rattle.cases.specs.Limits.{most_stages, most_hours}
 use Rattle.cases.specs.Symbols.{every, before}
 use Rattle.cases.specs.Forms.{Form, unit_widths, stage_widths, form2, newest, most_entries, width}
@@ -32,6 +31,7 @@ use Rattle.cases.proofs.LayoutLaws.{take_bytes, drop_bytes, bytes_number_at, num
 use Rattle.cases.proofs.LayoutLaws.{joined_same, joined_prefix}
 use Rattle.cases.proofs.FormsLaws.{old_front, front, unknown_false, form_of_new, unsigned_signed}
 use Rattle.cases.proofs.FieldsLaws.{Matches, entries_read}
+use Rattle.quantities.specs.Outcomes.{Accepted, Refused}
 
 -- its sections follow one another to its end
 pub record Linked (f : Form) (file : List ℕ) : Type 0 where

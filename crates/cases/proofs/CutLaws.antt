@@ -11,7 +11,6 @@ use lib.ListN.{length, get_or, take, replicate, length-append, length-replicate,
 use lib.Seq.{length-take-le, get_or-take, get_or-append-add}
 use Rattle.cases.specs.declared.Case.{Case}
 use Rattle.cases.specs.declared.Reading.{Reading}
-use Rattle.cases.specs.declared.Outcome.TheVariants.{Accepted, Refused}
 use Rattle.cases.specs.Limits.{most_stages, most_hours}
 use Rattle.cases.specs.Forms.{Form, form_numbered}
 use Rattle.cases.specs.Layout.{number, number_at, offset_at, length_at, listed, padded, no_output, no_mills, signed}
@@ -25,7 +24,8 @@ use Rattle.cases.proofs.LimitsLaws.{Limits, limits_of_refusal_of}
 use Rattle.cases.proofs.LayoutLaws.{length_padded, get_d_padded_in, padded_same, padded_by}
 use Rattle.cases.proofs.FormsLaws.{Known, four_sections, known}
 use Rattle.cases.proofs.AcceptedLaws.{Whole, read_accepted}
-use Rattle.cases.proofs.CodecLaws.{reading_of_accepted, reading_of_refused, admit_of_accepted, admit_of_refused}
+use Rattle.cases.proofs.CodecLaws.{reading_of_refused, admit_of_accepted, admit_of_refused}
+use Rattle.quantities.specs.Outcomes.{Accepted, Refused}
 
 -- ---- arrays
 module _ {X : Type 0} (d : X) (l : List X) (n size : ℕ) (held : n ≤ length l) (room : n ≤ size) where
@@ -204,8 +204,8 @@ module _ (c : Case) where
   pub admitted : Stored c → refusal_of c ≡ 0 → (outcome_number (admit_of c).outcome ≡ 0) × Zeroed c (admit_of c).case
   admitted s e =
       subst (λ r. (outcome_number r.outcome ≡ 0) × Zeroed c r.case)
-      (reading_of_accepted 0 (zeroed c) refl ∙ admit_of_accepted c e)
+      (admit_of_accepted c e)
       (refl, zeroed_view c (limits_of_refusal_of c e) s)
 
   pub unadmitted : (refusal_of c ≡ 0 → ⊥) → ReadsNone (refusal_of c) (admit_of c)
-  unadmitted h = reads_none (reading_of_refused (refusal_of c) (zeroed c) h ∙ admit_of_refused c h (zeroed c))
+  unadmitted h = reads_none (admit_of_refused c h)

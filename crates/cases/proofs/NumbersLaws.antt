@@ -1,9 +1,9 @@
 -- Laws of numbers in bytes: a number of v + w bytes is one of v bytes and one of w bytes, so that one law serves every
 -- width, reading and writing. Assumes nothing.
-use mathlib.Core.Path.{◌≡◌, sym, ap, ◌∙◌}
+use mathlib.Core.Path.{◌≡◌, ap, ◌∙◌}
 use mathlib.Core.List.{List, [], ◌∷◌, ◌++◌}
 use Prim.Native.Nat.{ℕ, zero, suc, ◌+◌, ◌*◌, ◌/◌, ◌%◌, ◌^◌, ◌<◌}
-use native.Mathlib.Nat.{pow-succ', mul_assoc, mod-lt, mod-add-div, add-zero, zero-add, suc-add}
+use native.Mathlib.Nat.{pow-succ', mul_assoc, add-zero, zero-add, suc-add}
 use native.Mathlib.Omega.{arith}
 use lib.ListN.{get_or}
 use Rattle.cases.specs.Layout.{number_at, bytes}
@@ -38,11 +38,6 @@ bytes_split (suc v) w a b h =
     let d : (a + 256 ^ suc v * b) / 256 ≡ a / 256 + 256 ^ v * b = omega arith in
     let small : a / 256 < 256 ^ v = omega (arith, pow-succ' 256 v) in
     rw (suc-add v w, m, d) (ap (λ t. a % 256 ∷ t) (bytes_split v w (a / 256) b small))
-
--- a number of v + w bytes, cut in two
-pub bytes_parts : (v w n : ℕ) → 0 < 256 ^ v → bytes (v + w) n ≡ bytes v (n % 256 ^ v) ++ bytes w (n / 256 ^ v)
-bytes_parts v w n h =
-    ap (bytes (v + w)) (sym (mod-add-div n (256 ^ v))) ∙ bytes_split v w (n % 256 ^ v) (n / 256 ^ v) (mod-lt n h)
 
 pub bytes_one : (n : ℕ) → n < 256 → bytes 1 n ≡ n ∷ []
 unfolding bytes

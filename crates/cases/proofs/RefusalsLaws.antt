@@ -2,7 +2,7 @@
 -- many entries, a day that opens in a sequence, and tests that go over a list from its front. Assumes nothing.
 use mathlib.Core.Path.{◌≡◌, refl, sym, ap, ◌∙◌, subst}
 use mathlib.Core.Logic.{◌↔◌}
-use mathlib.Core.Bool.{Bool, true, false, ◌&&◌, ◌||◌, cond, false≢true}
+use mathlib.Core.Bool.{Bool, true, false, ◌&&◌, cond, false≢true}
 use mathlib.Core.List.{List, [], ◌∷◌, ◌++◌}
 use Prim.Native.Nat.{ℕ, zero, suc, ◌+◌, ◌*◌, ◌-◌, ◌/◌, ◌≤◌, ◌<◌, min}
 use native.Mathlib.Nat.{mul-div_cancel_left, mul-div-le, mul-lt-mul_of_pos_left, min-eq_left, min-eq_right, le_of_lt}
@@ -15,12 +15,11 @@ use Rattle.laws.proofs.Tests.{and_true, and_false, both}
 use Rattle.cases.specs.declared.Case.{Case}
 use Rattle.quantities.specs.declared.Output.{Output}
 use Rattle.quantities.specs.declared.Mills.{Mills}
-use Rattle.cases.specs.Symbols.{every, stage, hourly, priced, high, low, UD, DD, PU, PD, p0, h, up_stage}
-use Rattle.cases.specs.Symbols.{down_stage}
+use Rattle.cases.specs.Symbols.{every, stage, hourly, priced, h}
 use Rattle.cases.specs.Forms.{numbered, unknown}
 use Rattle.cases.specs.Layout.{no_output, no_mills, offset_at, form_number_at}
-use Rattle.cases.specs.Refusals.{refusal2, refusal3, refusal4, refusal5, refusal6, refusal7, refusal8, refusal12}
-use Rattle.cases.specs.Refusals.{refusal13, opens_free, opens_up, opens_down, within, fits, first_of, tests}
+use Rattle.cases.specs.Refusals.{refusal12}
+use Rattle.cases.specs.Refusals.{within, fits, first_of, tests}
 use Rattle.cases.specs.Refusals.{refusal_of}
 use Rattle.cases.specs.Published.{FirstRefused, none, here, later, record_order, file_order}
 use Rattle.cases.proofs.LimitsLaws.{Between, within_true, between_within}
@@ -50,18 +49,6 @@ first_of_tests c more = first_of_append (tests c []) more tt
 -- of a record within the limits only further tests can apply
 pub tests_within : (c : Case) (more : List (ℕ × Bool)) → refusal_of c ≡ 0 → first_of (tests c more) ≡ first_of more
 tests_within c more e = first_of_tests c more ∙ ap (λ n. cond (eqb n 0) (first_of more) n) e
-
--- the refusal of a record, one test after the other
-pub refusal_of_two : (c : Case) → refusal2 c ≡ true → 2 ≡ refusal_of c
-unfolding first_of tests refusal_of
-refusal_of_two c e = rw e
-
-pub refusal_of_chain : (c : Case) {t₃ t₄ t₅ t₆ t₇ t₈ t₁₃ : Bool} {n₃ n₄ n₅ n₆ n₇ n₈ n₁₃ : ℕ} → refusal2 c ≡ false
-    → t₃ ≡ refusal3 c → t₄ ≡ refusal4 c → t₅ ≡ refusal5 c → t₆ ≡ refusal6 c → t₇ ≡ refusal7 c → t₈ ≡ refusal8 c
-    → t₁₃ ≡ refusal13 c → n₁₃ ≡ cond t₁₃ 13 0 → n₈ ≡ cond t₈ 8 n₁₃ → n₇ ≡ cond t₇ 7 n₈ → n₆ ≡ cond t₆ 6 n₇
-    → n₅ ≡ cond t₅ 5 n₆ → n₄ ≡ cond t₄ 4 n₅ → n₃ ≡ cond t₃ 3 n₄ → n₃ ≡ refusal_of c
-unfolding first_of tests refusal_of
-refusal_of_chain c e e₃ e₄ e₅ e₆ e₇ e₈ e₁₃ d₁₃ d₈ d₇ d₆ d₅ d₄ d₃ = rw e (cc)
 
 -- ---- the first number whose limits are not kept
 module _ {limited : ℕ → Type 0} where
@@ -159,33 +146,6 @@ module _ (file : List ℕ) where
   pub refusal12_late : (offset_at file 0 ≡ old_front → ⊥) → refusal12 file ≡ unknown numbered (form_number_at file)
   unfolding refusal12
   refusal12_late h = rw (ne_eqb (offset_at file 0) old_front h)
-
--- ---- how a day opens
--- in no sequence
-pub opens_free_at : (c : Case) (t : ℕ) {running : Bool} → t ≡ UD c → running ≡ within (low c) (high c) (p0 c)
-    → (eqb (up_stage c) 0 && (eqb (down_stage c) 0 && (eqb (p0 c) 0 || running && leb t (h c)))) ≡ opens_free c
-unfolding opens_free
-opens_free_at c t d r = rw (d, r)
-
--- in a sequence: at none of its stages, and at stage i with t hours in state
-module _ (c : Case) (i : ℕ) where
-  pub opens_up_none : i ≡ up_stage c → within 1 (UD c - 1) i ≡ false → false ≡ opens_up c
-  unfolding opens_up
-  opens_up_none e w = rw (ap (within 1 (UD c - 1)) (sym e) ∙ w) (sym (and_false (eqb (down_stage c) 0)))
-
-  pub opens_up_some : (t : ℕ) {output : Bool} → i ≡ up_stage c → t ≡ i → within 1 (UD c - 1) i ≡ true
-      → output ≡ eqb (p0 c) (PU c i) → (eqb (down_stage c) 0 && (output && eqb (h c) t)) ≡ opens_up c
-  unfolding opens_up
-  opens_up_some t e d w o = rw (← e, w, d, o)
-
-  pub opens_down_none : i ≡ down_stage c → within 2 (DD c) i ≡ false → false ≡ opens_down c
-  unfolding opens_down
-  opens_down_none e w = rw (ap (within 2 (DD c)) (sym e) ∙ w) (sym (and_false (eqb (up_stage c) 0)))
-
-  pub opens_down_some : (t : ℕ) {output : Bool} → i ≡ down_stage c → t ≡ UD c + i - 1 → within 2 (DD c) i ≡ true
-      → output ≡ eqb (p0 c) (PD c i) → (eqb (up_stage c) 0 && (output && leb t (h c))) ≡ opens_down c
-  unfolding opens_down
-  opens_down_some t e d w o = rw (← e, w, d, o)
 
 -- ---- tests that go over a list from its front
 pub every_none : (f : ℕ → Bool) → true ≡ every f 0

@@ -12,7 +12,6 @@ use lib.ListN.{length, get_or}
 use Rattle.cases.specs.declared.Case.{Case}
 use Rattle.quantities.specs.declared.Output.{Output}
 use Rattle.quantities.specs.declared.Mills.{Mills}
-use Rattle.cases.specs.declared.Outcome.TheVariants.{Accepted}
 use Rattle.cases.specs.Limits.{most_stages, most_hours, half_longs}
 use Rattle.quantities.specs.Widths.{words}
 use Rattle.cases.specs.Symbols.{before, stage, hourly, priced}
@@ -36,6 +35,7 @@ use Rattle.cases.proofs.FormsLaws.{signed_unsigned}
 use Rattle.cases.proofs.FieldsLaws.{field_at_entry, field_at_past}
 use Rattle.cases.proofs.WrittenLaws.{sections_from, length_file_of, offset_written, length_written}
 use Rattle.cases.proofs.WrittenLaws.{section_written, entries_written, entry_written}
+use Rattle.quantities.specs.Outcomes.{Accepted}
 
 abbrev output : ℕ → Output
 output n = record { 0 = n }

@@ -2,19 +2,18 @@
 -- section. Assumes nothing.
 use mathlib.Core.Path.{◌≡◌, refl, sym, ap, ◌∙◌}
 use mathlib.Core.List.{List, [], ◌∷◌, ◌++◌, append_assoc, append-nil}
-use Prim.Native.Nat.{ℕ, suc, ◌+◌, ◌*◌, ◌/◌, ◌%◌, ◌^◌, ◌≤◌, ◌<◌}
+use Prim.Native.Nat.{ℕ, suc, ◌+◌, ◌*◌, ◌≤◌, ◌<◌}
 use native.Mathlib.Nat.{add-zero, zero-add}
 use native.Mathlib.Omega.{arith}
 use native.Mathlib.Numerals.{add-one}
 use lib.ListN.{length, set, drop, length-append}
 use lib.Seq.{sets, sets-eq}
 use Rattle.cases.specs.declared.Case.{Case}
-use Rattle.quantities.specs.Widths.{words}
 use Rattle.cases.specs.Forms.{newest, entry_length}
 use Rattle.cases.specs.Layout.{joined, bytes, unsigned, field_bytes, section_bytes, section_length, section_from}
 use Rattle.cases.specs.Layout.{pair_bytes, file_of, bytes_of}
 use Rattle.cases.proofs.LayoutLaws.{length_bytes, length_joined}
-use Rattle.cases.proofs.NumbersLaws.{bytes_parts, bytes_one}
+use Rattle.cases.proofs.NumbersLaws.{bytes_one}
 use Rattle.cases.proofs.FormsLaws.{front}
 use Rattle.cases.proofs.WrittenLaws.{length_pair, length_pair_bytes, sections_from}
 
@@ -53,22 +52,6 @@ sets_part : (f : ℕ → List ℕ) (l : List ℕ) {l₁ l₂ : List ℕ} (at i :
     → l₂ ≡ sets l₁ (at + length (joined f i)) (f i) → l₂ ≡ sets l at (joined f (suc i))
 unfolding joined
 sets_part f l at i e g = sets_next l (joined f i) (f i) at (length (joined f i)) refl e g
-
--- a number of v + w bytes, written in two parts
-pub sets_parts : (v w n : ℕ) → 0 < 256 ^ v → (l : List ℕ) (at : ℕ)
-    → sets (sets l at (bytes v (n % 256 ^ v))) (at + v) (bytes w (n / 256 ^ v)) ≡ sets l at (bytes (v + w) n)
-sets_parts v w n h l at =
-    sets_next l (bytes v (n % 256 ^ v)) (bytes w (n / 256 ^ v)) at v
-    (length_bytes v (n % 256 ^ v)) refl refl
-    ∙ ap (sets l at) (sym (bytes_parts v w n h))
-
--- a number of two bytes, written byte by byte
-pub sets_two : (n : ℕ) → n < words → (l : List ℕ) (at : ℕ)
-    → set (set l at (n % 256)) (at + 1) (n / 256) ≡ sets l at (bytes 2 n)
-sets_two n h l at =
-    ap (sets (set l at (n % 256)) (at + 1)) (sym (bytes_one (n / 256) (omega arith)))
-    ∙ ap (λ t. sets (sets l at t) (at + 1) (bytes 1 (n / 256))) (sym (bytes_one (n % 256) (omega arith)))
-    ∙ sets_parts 1 1 n (omega arith) l at
 
 -- two numbers of a width
 pub sets_both : (w a b : ℕ) (l : List ℕ) {l₁ l₂ : List ℕ} (at : ℕ) → l₁ ≡ sets l at (bytes w a)

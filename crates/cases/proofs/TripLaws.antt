@@ -10,8 +10,6 @@ use lib.ListN.{length, get_or, take, drop}
 use lib.Seq.{take-append_seam, drop-append_seam}
 use lib.Signed.{◌≤ℤ◌}
 use Rattle.cases.specs.declared.Case.{Case}
-use Rattle.cases.specs.declared.Outcome.TheVariants.{Accepted}
-use Rattle.cases.specs.declared.Written.TheVariants.{Bytes, Refused}
 use Rattle.quantities.specs.Widths.{words}
 use Rattle.cases.specs.Forms.{stage_widths, old_form, newest, entry_length}
 use Rattle.cases.specs.Layout.{AllBytes, no_mills, unsigned, zeroed, file_of, bytes_of}
@@ -30,10 +28,12 @@ use Rattle.cases.proofs.CutLaws.{zeroed_case_of}
 use Rattle.cases.proofs.SameLimitsLaws.{signed_unique}
 use Rattle.cases.proofs.PublishedLaws.{offset_word, last_bytes}
 use Rattle.cases.proofs.HoldsLaws.{holds_bytes_of, read_holds}
+use Rattle.quantities.specs.Outcomes.{Accepted, Refused}
+use Rattle.std.specs.Prelude.{Ok}
 
 -- a file in front of the lent bytes, and nothing written
 abbrev filed : List ℕ → List ℕ → Writing
-filed file lent = record { answer = Bytes (length file); lent = file ++ drop (length file) lent }
+filed file lent = record { answer = Ok (length file); lent = file ++ drop (length file) lent }
 
 abbrev unfiled : ℕ → List ℕ → Writing
 unfiled n lent = record { answer = Refused n; lent = lent }
@@ -52,7 +52,7 @@ module _ (c : Case) (lent : List ℕ) where
   write_of_filed : refusal_of c ≡ 0 → length (bytes_of c) ≤ length lent → write_of c lent ≡ filed (bytes_of c) lent
   write_of_filed e room =
       sym (write_of_done c lent e room)
-      ∙ ap (λ l. record { answer = Bytes (length (bytes_of c)); lent = l }) (sets_front (bytes_of c) lent room)
+      ∙ ap (λ l. record { answer = Ok (length (bytes_of c)); lent = l }) (sets_front (bytes_of c) lent room)
 
   form3 : refusal_of c ≡ 0 → IsForm3 (bytes_of c)
   form3 e =
@@ -108,7 +108,7 @@ module _ (c : Case) (lent : List ℕ) where
 
 module _ (s : List ℕ) (accepted : (read_of s).outcome ≡ Accepted) where
   pub read_writes : (lent : List ℕ) → AllBytes s → IsForm3 s → length s ≤ length lent
-      → write_of (read_of s).case lent ≡ record { answer = Bytes (length s); lent = s ++ drop (length s) lent }
+      → write_of (read_of s).case lent ≡ record { answer = Ok (length s); lent = s ++ drop (length s) lent }
   read_writes lent a form room =
       let held = read_holds s (ap outcome_number accepted) in
       let number = last_bytes s held.chained held.measured.form form.first ∙ form.number in

@@ -7,7 +7,6 @@ use Prim.Native.Nat.{ℕ, ◌≤◌}
 use native.Mathlib.Omega.{arith}
 use lib.Dec.{ltb}
 use Rattle.cases.specs.declared.Case.{Case}
-use Rattle.cases.specs.declared.Outcome.TheVariants.{Accepted}
 use Rattle.cases.specs.Limits.{short_time, short_work}
 use Rattle.cases.specs.Symbols.{up_time, down_time}
 use Rattle.cases.specs.Refusals.{work_length, refusal_of}
@@ -22,6 +21,7 @@ use Rattle.cases.proofs.CutLaws.{read_of_accepted}
 use Rattle.cases.proofs.HoldsLaws.{read_holds}
 use Rattle.cases.proofs.FileLimitsLaws.{file_limits}
 use Rattle.cases.proofs.WorkLaws.{work_short}
+use Rattle.quantities.specs.Outcomes.{Accepted}
 
 -- limits that are kept are kept with other bounds that the record's hours and minimum times do not pass
 moved_counts : {hours more : ℕ} {c : Case} → (c.hours ≤ hours → c.hours ≤ more) → CountsTo hours c

@@ -1,6 +1,7 @@
 -- The case file (document 01, "Case file"; requests F-2 and F-5): the bytes of a case, and the case of a file, by
 -- offsets and by the widths of its form. Definitions only. Assumes nothing.
-use Rattle.std.specs.Prelude.{cond, List, [], ◌∷◌, ◌++◌, ℕ, zero, suc, ◌+◌, ◌*◌, ◌-◌, ◌/◌, ◌%◌, ◌<◌, ltb, eqb, ℤ, pos, negsuc, ◌-ℤ◌, length, get_or, take, drop}
+use Rattle.std.specs.Prelude.{cond, List, [], ◌∷◌, ◌++◌, ℕ, zero, suc, ◌+◌, ◌*◌, ◌-◌, ◌/◌, ◌%◌, ◌<◌, ltb, eqb, ℤ}
+use Rattle.std.specs.Prelude.{pos, negsuc, ◌-ℤ◌, length, get_or, take, drop}
 use Rattle.cases.specs.declared.Case.{Case}
 use Rattle.quantities.specs.declared.Output.{Output}
 use Rattle.quantities.specs.declared.Hour.{Hour}

@@ -1,10 +1,9 @@
 -- What holds of the limits, of the case file and of its record, one field for each promise; proofs/Promises proves them
 -- all. Definitions only. Assumes nothing.
-use Rattle.std.specs.Prelude.{◌≡◌, ◌↔◌, List, ◌++◌, ℕ, ◌+◌, ◌*◌, ◌-◌, ◌≤◌, ◌<◌, pos, length, get_or, take, drop, ◌≤ℤ◌}
+use Rattle.std.specs.Prelude.{◌≡◌, ◌↔◌, List, ◌++◌, ℕ, ◌+◌, ◌*◌, ◌-◌, ◌≤◌, ◌<◌, pos, length, get_or, take, drop}
+use Rattle.std.specs.Prelude.{◌≤ℤ◌, Ok}
 use Rattle.cases.specs.declared.Case.{Case}
 use Rattle.cases.specs.declared.Reading.{Reading}
-use Rattle.cases.specs.declared.Outcome.TheVariants.{Accepted, Refused}
-use Rattle.cases.specs.declared.Written.TheVariants.{Bytes}
 use Rattle.cases.specs.Forms.{old_form, form2}
 use Rattle.cases.specs.Layout.{AllBytes, no_mills, file_of, zeroed}
 use Rattle.cases.specs.Refusals.{work_length, refusal_of}
@@ -12,6 +11,7 @@ use Rattle.cases.specs.Reads.{Writing, read_of, admit_of, write_of}
 use Rattle.cases.specs.Reads.{outcome_number, written_numbers}
 use Rattle.cases.specs.Published.{Limited, FirstRefused, record_order, file_order, word, Holds, FileLimited}
 use Rattle.cases.specs.Published.{LimitedBefore, NoLonger, FileLimitedBefore, WorksIn, Zeroed, AllZero, Stored}
+use Rattle.quantities.specs.Outcomes.{Accepted, Refused}
 
 -- a reading is refused by n, beside a record of zeros
 pub record ReadsNone (n : ℕ) (r : Reading) : Type 0 where
@@ -74,7 +74,7 @@ pub record Promises : Type 0 where
   -- the record that `read` gave, written where its bytes have room, gives the file, if that is of form 3
   pub read_writes : (s : List ℕ) → (read_of s).outcome ≡ Accepted → (lent : List ℕ) → AllBytes s → IsForm3 s
       → length s ≤ length lent
-      → write_of (read_of s).case lent ≡ record { answer = Bytes (length s); lent = s ++ drop (length s) lent }
+      → write_of (read_of s).case lent ≡ record { answer = Ok (length s); lent = s ++ drop (length s) lent }
   -- and, read again, an equal record, of whatever form the file is
   pub read_again : (s : List ℕ) → (read_of s).outcome ≡ Accepted → (lent : List ℕ)
       → (written_numbers (write_of (read_of s).case lent).answer).0 ≡ 0

@@ -1,7 +1,8 @@
 -- A second view of the limits and the layout: the published numbers field by field, and the bytes of a file at their
 -- offsets (document 01, "Case file" and "Refusal list"; requests F-2, F-5 and F-6). The promises tie it to Limits,
 -- Forms, Refusals and Layout; no entry rests on it. Definitions only. Assumes nothing.
-use Rattle.std.specs.Prelude.{◌≡◌, ◌⊎◌, List, [], ◌∷◌, ◌++◌, ℕ, ◌+◌, ◌*◌, ◌-◌, ◌≤◌, ◌<◌, ℤ, pos, negsuc, ◌-ℤ◌, length, get_or, take, replicate, ◌≤ℤ◌}
+use Rattle.std.specs.Prelude.{◌≡◌, ◌⊎◌, List, [], ◌∷◌, ◌++◌, ℕ, ◌+◌, ◌*◌, ◌-◌, ◌≤◌, ◌<◌, ℤ, pos, negsuc, ◌-ℤ◌}
+use Rattle.std.specs.Prelude.{length, get_or, take, replicate, ◌≤ℤ◌}
 use Rattle.cases.specs.declared.Case.{Case}
 use Rattle.cases.specs.Symbols.{stage, hourly, priced}
 use Rattle.cases.specs.Layout.{no_output, no_mills}

@@ -1,6 +1,7 @@
 -- The refusal list of document 01 and of requests F-2, F-5 and F-6, one test for each number; the first that applies is
 -- returned. 11 is answered by a search that finds no list (Answers, `planned`). Definitions only. Assumes nothing.
-use Rattle.std.specs.Prelude.{Bool, ◌&&◌, ◌||◌, not, cond, List, [], ◌∷◌, ℕ, suc, ◌+◌, ◌*◌, ◌-◌, ◌/◌, leb, ltb, eqb, ℤ, pos, neg_ℤ, length, get_or}
+use Rattle.std.specs.Prelude.{Bool, ◌&&◌, ◌||◌, not, cond, List, [], ◌∷◌, ℕ, suc, ◌+◌, ◌*◌, ◌-◌, ◌/◌, leb, ltb, eqb}
+use Rattle.std.specs.Prelude.{ℤ, pos, neg_ℤ, length, get_or}
 use Rattle.std.specs.Int.Signed.{le_z}
 use Rattle.cases.specs.declared.Case.{Case}
 use Rattle.cases.specs.Limits.{most_stages, most_hours, most_output, most_time, most_elapsed, most_variable}

@@ -3,7 +3,9 @@
 // stands here, so that an edit of a definition proves laws alone again.
 #![tactic(auto)]
 
-use quantities::{HalfMills, Hour, Mills, Output};
+pub mod admitted;
+
+use quantities::{HalfMills, Hour, Mills, Output, Refusal};
 
 // The limits of a case, each named once (specs/Limits). Entries that a record has room for: outputs of a trajectory,
 // hours of a day.
@@ -71,11 +73,6 @@ pub const FORM_TWO: u16 = 2;
 
 pub const FORM: u16 = 3;
 
-// How many 16-bit numbers there are; how many 32-bit numbers with a sign are not below 0.
-pub const WORDS: u32 = 65536;
-
-pub const HALF_LONGS: u32 = 2147483648;
-
 // A case.
 #[repr(C)]
 #[derive(Clone, Copy)]
@@ -103,31 +100,18 @@ pub struct Case {
     // in mills per megawatt-hour; 0 free, 1 on-line, 2 off-line
     pub prices: [Mills; HOURS],
     pub orders: [u8; HOURS],
-    // UD, DD and T: how many entries count
+    // UD, DD and T: how many entries count; the arrays are as long as in C, which lays the record out
     pub rises: usize,
     pub falls: usize,
     pub hours: usize,
 }
 
-// Whether a file or a record was accepted, or the number of its refusal.
-#[derive(Clone, Copy)]
-pub enum Outcome {
-    Accepted,
-    Refused(u8),
-}
-
-// The answer of `read` and `admit`: beside a refusal the record is all zeros.
+// The answer of `read` and `admit`: whether a file or a record was accepted. Beside a refusal the record is all zeros,
+// as is promised, so the record stands beside the outcome and not in it.
 #[derive(Clone, Copy)]
 pub struct Reading {
-    pub outcome: Outcome,
+    pub outcome: Result<(), Refusal>,
     pub case: Case,
-}
-
-// The answer of `write`: how many bytes were written, or the number of a refusal.
-#[derive(Clone, Copy)]
-pub enum Written {
-    Bytes(usize),
-    Refused(u8),
 }
 
 // An hour, and the number of the rule that is broken there.
@@ -142,21 +126,12 @@ pub struct Breach {
 pub enum Verdict {
     Passes(HalfMills),
     Breaks(Breach),
-    Refused(u8),
 }
 
-// The answer of `schedule`: what the list found earns, or the number of a refusal.
-#[derive(Clone, Copy)]
-pub enum Plan {
-    Found(HalfMills),
-    Refused(u8),
-}
-
-// The answer of `compare`: which of two lists to offer, with what it earns, or neither, or the number of a refusal.
+// The answer of `compare`: which of two lists to offer, with what it earns, or neither.
 #[derive(Clone, Copy)]
 pub enum Comparison {
     First(HalfMills),
     Second(HalfMills),
     Neither,
-    Refused(u8),
 }

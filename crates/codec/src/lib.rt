@@ -5,17 +5,16 @@
 
 mod entries;
 
-ghost use Rattle.std.specs.Prelude.{◌≡◌};
+ghost use Rattle.std.specs.Prelude.{◌≡◌, Err};
 ghost use Rattle.cases.specs.Layout.{blank};
-ghost use Rattle.cases.specs.Reads.{reading_of, read_of, admit_of, write_of};
+ghost use Rattle.cases.specs.Reads.{read_of, admit_of, write_of};
 
-use cases::{Case, HOURS, Outcome, Reading, STAGES, Written};
-use quantities::{Hour, Mills, Output};
-
-// The number of a record that no refusal applies to.
-const ACCEPTED: u8 = 0;
+use cases::admitted::Admitted;
+use cases::{Case, HOURS, Reading, STAGES};
+use quantities::{Hour, Mills, Output, Refusal};
 
 // The record of zeros.
+#[tactic(auto, using(cases::proofs::CutLaws::blank_zeros))]
 fn blank() -> Case
     ensures { result ≡ blank }
 {
@@ -44,65 +43,68 @@ fn blank() -> Case
     }
 }
 
-// The answer by a refusal's number: the record of zeros beside it; where it is 0, accepted with the record itself.
-fn reading_of(number: u8, case: Case) -> Reading
-    ensures { result ≡ reading_of number case }
+// A refusal: the record of zeros beside it.
+fn refused(refusal: Refusal) -> Reading
+    ensures { result ≡ record { outcome = Err refusal; case = blank } }
 {
-    if number == 0 {
-        return Reading {
-            outcome: Outcome::Accepted,
-            case,
-        };
-    }
     Reading {
-        outcome: Outcome::Refused(number),
+        outcome: Err(refusal),
         case: blank(),
     }
 }
 
 // The case of a file, with the entries past its counts zero, or the first refusal of 1, 2, 12, 3 to 8 and 13 that
 // applies.
+#[tactic(auto, using(crate::proofs::ReadsLaws::reading))]
 pub fn read(file: &[u8]) -> Reading
     ensures { result ≡ read_of file.now }
 {
     if reader::pairs::refusal1(file) {
-        return reading_of(1, blank());
+        return refused(Refusal(1));
     }
     if reader::pairs::refusal2_file(file) {
-        return reading_of(2, blank());
+        return refused(Refusal(2));
     }
     if reader::pairs::refusal12(file) {
-        return reading_of(12, blank());
+        return refused(Refusal(12));
     }
     let case = reader::sections::case_of(file);
-    reading_of(limits::refusal_of(case), case)
+    match limits::tested(&case) {
+        Ok(()) => Reading {
+            outcome: Ok(()),
+            case,
+        },
+        Err(refusal) => refused(refusal),
+    }
 }
 
 // A record, with the entries past its counts zero, or the first refusal of 2 to 8 and 13 that applies.
+#[tactic(auto, using(crate::proofs::ReadsLaws::admitting))]
 pub fn admit(case: Case) -> Reading
     ensures { result ≡ admit_of case }
 {
-    let number = limits::refusal_of(case);
-    if number != 0 {
-        return reading_of(number, case);
+    match limits::tested(&case) {
+        Ok(()) => Reading {
+            outcome: Ok(()),
+            case: entries::zeroed(&Admitted { case }),
+        },
+        Err(refusal) => refused(refusal),
     }
-    reading_of(0, entries::zeroed(case))
 }
 
 // Writes the file of a record to the front of the lent bytes and returns its length; the bytes past it stay. On a
 // refusal, the first of 2 to 8, 13 and 10 that applies, every lent byte stays.
-pub fn write(case: Case, bytes: &mut [u8]) -> Written
+#[tactic(auto, using(crate::proofs::ReadsLaws::writing))]
+pub fn write(case: Case, bytes: &mut [u8]) -> Result<usize, Refusal>
     ensures value { result ≡ (write_of case bytes.old).answer }
     ensures bytes_after { bytes.new ≡ (write_of case bytes.old).lent }
 {
-    let refusal = limits::refusal_of(case);
-    if refusal != ACCEPTED {
-        return Written::Refused(refusal);
-    }
-    let n = writer::file_length(case);
+    limits::tested(&case)?;
+    let admitted = Admitted { case };
+    let n = writer::file_length(&admitted);
     if bytes.len() < n {
-        return Written::Refused(10);
+        return Err(Refusal(10));
     }
-    writer::put_case(case, bytes);
-    Written::Bytes(n)
+    writer::put_case(&admitted, bytes);
+    Ok(n)
 }

@@ -11,10 +11,8 @@ ghost use Rattle.curve.specs.Pattern.{value_digits, sign_place, scale, field_of,
 ghost use Rattle.curve.specs.Cost.{most_energy, costs_length, whole, allowed, accepted, record_of, curved_of, cost_of};
 ghost use Rattle.curve.specs.Cost.{entry_of, table_of, answer_of, lent_after, supplied_of};
 
-use curve::{
-    COSTS, Curve, FRACTION_DIGITS, Filled, Kind, MOST_COEFFICIENT, SCALE, SIGN_PLACE, Supplied,
-};
-use quantities::HalfMills;
+use curve::{COSTS, Curve, FRACTION_DIGITS, Kind, MOST_COEFFICIENT, SCALE, SIGN_PLACE};
+use quantities::{HalfMills, Refusal};
 
 // How many numbers a table asks for.
 const ROOM: usize = COSTS;
@@ -23,11 +21,7 @@ const ROOM: usize = COSTS;
 pub fn record_of(kind: Kind) -> Curve
     ensures { result ≡ record_of kind }
 {
-    match kind {
-        Kind::Flat(a) => Curve { a, b: 0.0, c: 0.0 },
-        Kind::Straight(a, b) => Curve { a, b, c: 0.0 },
-        Kind::Curved(a, b, c) => Curve { a, b, c },
-    }
+    Curve::from(kind)
 }
 
 // Whether a coefficient is a number from 0 to the most. A NaN is not, and minus zero is.
@@ -38,6 +32,7 @@ fn coefficient(x: f64) -> bool
 }
 
 // Whether a record passes refusal 16.
+#[tactic(auto, unfolding(curve::specs::Cost::accepted))]
 pub fn accepts(curve: Curve) -> bool
     ensures { result ≡ accepted curve }
 {
@@ -53,30 +48,31 @@ fn zero(x: f64) -> bool
 
 // The kind that a number tells: 0 flat, 1 straight, 2 curved. An unused coefficient that is not 0, or another number,
 // is refused.
-pub fn kind_of(number: u16, curve: Curve) -> Supplied
+pub fn kind_of(number: u16, curve: Curve) -> Option<Kind>
     ensures { result ≡ supplied_of number curve }
 {
     match number {
         0 => {
             if zero(curve.b) & zero(curve.c) {
-                Supplied::Given(Kind::Flat(curve.a))
+                Some(Kind::Flat(curve.a))
             } else {
-                Supplied::Unfit
+                None
             }
         }
         1 => {
             if zero(curve.c) {
-                Supplied::Given(Kind::Straight(curve.a, curve.b))
+                Some(Kind::Straight(curve.a, curve.b))
             } else {
-                Supplied::Unfit
+                None
             }
         }
-        2 => Supplied::Given(Kind::Curved(curve.a, curve.b, curve.c)),
-        _ => Supplied::Unfit,
+        2 => Some(Kind::Curved(curve.a, curve.b, curve.c)),
+        _ => None,
     }
 }
 
 // The cost of a record at n, each operation rounded once.
+#[tactic(auto, unfolding(curve::specs::Cost::cost_of))]
 fn cost_at(curve: Curve, n: usize) -> f64
     requires { n ≤ most_energy }
     ensures { result ≡ cost_of (curved_of curve) n }
@@ -140,27 +136,24 @@ pub fn fill(curve: Curve, table: &mut [i64])
     requires { T (accepted curve) × (costs_length ≤ length table.old) }
     ensures { table.new ≡ table_of (curved_of curve) ++ drop costs_length table.old }
 {
-    let mut n: usize = 0;
-    while n < COSTS {
-        let v = entry_at(curve, n);
-        money::store(table, n, v);
-        n += 1;
+    for n in 0..COSTS {
+        money::store(table, n, entry_at(curve, n));
     }
 }
 
 // Fills a lent table with a kind's costs: 16 for a coefficient out of range, then 10 for too few lent numbers. A
 // refusal leaves them as they were.
-pub fn fill_table(kind: Kind, table: &mut [i64]) -> Filled
+pub fn fill_table(kind: Kind, table: &mut [i64]) -> Result<(), Refusal>
     ensures { (result ≡ answer_of kind table.old)
         × (table.new ≡ lent_after kind table.old) }
 {
     let curve = record_of(kind);
     if !accepts(curve) {
-        return Filled::Refused(16);
+        return Err(Refusal(16));
     }
     if table.len() < ROOM {
-        return Filled::Refused(10);
+        return Err(Refusal(10));
     }
     fill(curve, table);
-    Filled::Done
+    Ok(())
 }

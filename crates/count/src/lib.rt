@@ -5,7 +5,7 @@
 ghost use Rattle.std.specs.Prelude.{◌≡◌, ◌*◌, ◌/◌, ◌<◌, min};
 ghost use Rattle.cases.specs.Limits.{longs};
 
-// How often `amount` holds `size` whole.
+// How often `amount` holds `size` whole. A loop, since the library does not divide.
 pub fn whole(amount: usize, size: usize) -> usize
     requires { 0 < size }
     ensures { result ≡ amount / size }

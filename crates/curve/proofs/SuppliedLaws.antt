@@ -13,10 +13,10 @@ use Rattle.laws.proofs.Tests.{and_false, t_to_true}
 use Rattle.curve.specs.declared.Kind.{Kind}
 use Rattle.curve.specs.declared.Kind.TheVariants.{Flat, Straight, Curved}
 use Rattle.curve.specs.declared.Curve.{Curve}
-use Rattle.curve.specs.declared.Filled.TheVariants.{Done, Refused}
-use Rattle.curve.specs.declared.Supplied.TheVariants.{Given, Unfit}
 use Rattle.curve.specs.Cost.{costs_length, whole, record_of, accepted, tabled, answer_of, lent_after, supplied_of}
 use Rattle.curve.specs.Promises.{kind_number, Holds}
+use Rattle.quantities.specs.Outcomes.{Accepted, Refused}
+use Rattle.std.specs.Prelude.{Some, None}
 
 pub not_to_false : (a : Bool) → T (not a) → a ≡ false
 not_to_false true t = absurd t
@@ -27,34 +27,34 @@ not_to_false false t = refl
 abbrev zeroed : Float → Bool
 zeroed x = eq x (whole 0)
 
-pub told : (k : Kind) (r : Curve) → Holds k r → supplied_of (kind_number k) r ≡ Given k
+pub told : (k : Kind) (r : Curve) → Holds k r → supplied_of (kind_number k) r ≡ Some k
 told (Flat a) r h =
-    ap (λ (t : Bool). cond (t && zeroed r.c) (Given (Flat r.a)) Unfit) (t_to_true (zeroed r.b) h.1)
-    ∙ ap (λ (t : Bool). cond t (Given (Flat r.a)) Unfit) (t_to_true (zeroed r.c) h.2)
-    ∙ ap (λ (x : Float). Given (Flat x)) h.0
+    ap (λ (t : Bool). cond (t && zeroed r.c) (Some (Flat r.a)) None) (t_to_true (zeroed r.b) h.1)
+    ∙ ap (λ (t : Bool). cond t (Some (Flat r.a)) None) (t_to_true (zeroed r.c) h.2)
+    ∙ ap (λ (x : Float). Some (Flat x)) h.0
 told (Straight a b) r h =
-    ap (λ (t : Bool). cond t (Given (Straight r.a r.b)) Unfit) (t_to_true (zeroed r.c) h.2)
-    ∙ ap (λ (x : Float). Given (Straight x r.b)) h.0
-    ∙ ap (λ (x : Float). Given (Straight a x)) h.1
+    ap (λ (t : Bool). cond t (Some (Straight r.a r.b)) None) (t_to_true (zeroed r.c) h.2)
+    ∙ ap (λ (x : Float). Some (Straight x r.b)) h.0
+    ∙ ap (λ (x : Float). Some (Straight a x)) h.1
 told (Curved a b c) r h =
-    ap (λ (x : Float). Given (Curved x r.b r.c)) h.0
-    ∙ ap (λ (x : Float). Given (Curved a x r.c)) h.1
-    ∙ ap (λ (x : Float). Given (Curved a b x)) h.2
+    ap (λ (x : Float). Some (Curved x r.b r.c)) h.0
+    ∙ ap (λ (x : Float). Some (Curved a x r.c)) h.1
+    ∙ ap (λ (x : Float). Some (Curved a b x)) h.2
 
 module _ (r : Curve) where
-  pub c_used : T (not (zeroed r.c)) → (supplied_of 0 r ≡ Unfit) × (supplied_of 1 r ≡ Unfit)
+  pub c_used : T (not (zeroed r.c)) → (supplied_of 0 r ≡ None) × (supplied_of 1 r ≡ None)
   c_used t =
       let e = not_to_false (zeroed r.c) t in (
-        ap (λ (t : Bool). cond (zeroed r.b && t) (Given (Flat r.a)) Unfit) e
-            ∙ ap (λ (t : Bool). cond t (Given (Flat r.a)) Unfit) (and_false (zeroed r.b)),
-        ap (λ (t : Bool). cond t (Given (Straight r.a r.b)) Unfit) e,
+        ap (λ (t : Bool). cond (zeroed r.b && t) (Some (Flat r.a)) None) e
+            ∙ ap (λ (t : Bool). cond t (Some (Flat r.a)) None) (and_false (zeroed r.b)),
+        ap (λ (t : Bool). cond t (Some (Straight r.a r.b)) None) e,
       )
 
-  pub b_used : T (not (zeroed r.b)) → supplied_of 0 r ≡ Unfit
+  pub b_used : T (not (zeroed r.b)) → supplied_of 0 r ≡ None
   b_used t =
-      ap (λ (t : Bool). cond (t && zeroed r.c) (Given (Flat r.a)) Unfit) (not_to_false (zeroed r.b) t)
+      ap (λ (t : Bool). cond (t && zeroed r.c) (Some (Flat r.a)) None) (not_to_false (zeroed r.b) t)
 
-pub other_number : (n : ℕ) (r : Curve) → 2 < n → supplied_of n r ≡ Unfit
+pub other_number : (n : ℕ) (r : Curve) → 2 < n → supplied_of n r ≡ None
 other_number zero r h = absurd (omega arith)
 other_number (suc zero) r h = absurd (omega arith)
 other_number (suc (suc zero)) r h = absurd (omega arith)
@@ -82,17 +82,17 @@ module _ (k : Kind) (lent : List ℤ) where
 
   pub answers_16 : fit ≡ false → (answer_of k lent ≡ Refused 16) × (lent_after k lent ≡ lent)
   answers_16 e = (
-    picks_third fit long Done (Refused 10) (Refused 16) e,
+    picks_third fit long Accepted (Refused 10) (Refused 16) e,
     picks_third fit long (tabled k lent) lent lent e,
   )
 
   pub answers_10 : fit ≡ true → length lent < costs_length → (answer_of k lent ≡ Refused 10) × (lent_after k lent ≡ lent)
   answers_10 e h =
       let f = lt-leb costs_length (length lent) h in
-      (picks_second fit long Done (Refused 10) (Refused 16) e f, picks_second fit long (tabled k lent) lent lent e f)
+      (picks_second fit long Accepted (Refused 10) (Refused 16) e f, picks_second fit long (tabled k lent) lent lent e f)
 
   pub answers_done : fit ≡ true → costs_length ≤ length lent
-      → (answer_of k lent ≡ Done) × (lent_after k lent ≡ tabled k lent)
+      → (answer_of k lent ≡ Accepted) × (lent_after k lent ≡ tabled k lent)
   answers_done e h =
       let f = le-leb costs_length (length lent) h in
-      (picks_first fit long Done (Refused 10) (Refused 16) e f, picks_first fit long (tabled k lent) lent lent e f)
+      (picks_first fit long Accepted (Refused 10) (Refused 16) e f, picks_first fit long (tabled k lent) lent lent e f)

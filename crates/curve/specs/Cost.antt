@@ -1,16 +1,14 @@
 -- The boiler maker's cost curve (request F-7): what an hour costs, in half-mills, at n half-megawatt-hours. Each
 -- operation is IEEE 754's on binary64, rounded once (the kit's lib.Ieee). Definitions only. Assumes nothing.
-use Rattle.std.specs.Prelude.{Bool, ◌&&◌, cond, List, [], ◌∷◌, ◌++◌, ℕ, zero, suc, ◌+◌, ◌*◌, ℤ, pos, T, leb, length, drop, Float}
+use Rattle.std.specs.Prelude.{Bool, ◌&&◌, cond, List, [], ◌∷◌, ◌++◌, ℕ, zero, suc, ◌+◌, ◌*◌, ℤ, pos, T, leb, length}
+use Rattle.std.specs.Prelude.{drop, Float, Option, Some, None}
 use Rattle.std.specs.Float.{binary64}
 use Rattle.std.specs.Float.Ieee.{add, mul, le, eq, fits, of_int, to_bits}
 use Rattle.curve.specs.declared.Kind.{Kind}
 use Rattle.curve.specs.declared.Kind.TheVariants.{Flat, Straight, Curved}
 use Rattle.curve.specs.declared.Curve.{Curve}
-use Rattle.curve.specs.declared.Filled.{Filled}
-use Rattle.curve.specs.declared.Filled.TheVariants.{Done, Refused}
-use Rattle.curve.specs.declared.Supplied.{Supplied}
-use Rattle.curve.specs.declared.Supplied.TheVariants.{Given, Unfit}
 use Rattle.curve.specs.Pattern.{whole_of}
+use Rattle.quantities.specs.Outcomes.{Accepted, Outcome, Refused}
 
 -- half-megawatt-hours: the energy of an hour, at the most
 abbrev pub most_energy : ℕ
@@ -92,9 +90,9 @@ abbrev pub tabled : Kind → List ℤ → List ℤ
 tabled k lent = table_of k ++ drop costs_length lent
 
 -- what filling lent numbers answers: 16, then 10 where there are too few of them
-abbrev pub answer_of : Kind → List ℤ → Filled
+abbrev pub answer_of : Kind → List ℤ → Outcome
 answer_of k lent =
-    cond (accepted (record_of k)) (cond (leb costs_length (length lent)) Done (Refused 10)) (Refused 16)
+    cond (accepted (record_of k)) (cond (leb costs_length (length lent)) Accepted (Refused 10)) (Refused 16)
 
 -- the lent numbers after it; a refusal leaves them
 abbrev pub lent_after : Kind → List ℤ → List ℤ
@@ -102,8 +100,8 @@ lent_after k lent = cond (accepted (record_of k)) (cond (leb costs_length (lengt
 
 -- the kind that a number tells, with the three coefficients: 0 flat, 1 straight, 2 curved. An unused coefficient that
 -- is not 0, or another number, is refused.
-abbrev pub supplied_of : ℕ → Curve → Supplied
-supplied_of zero r = cond (eq r.b (whole 0) && eq r.c (whole 0)) (Given (Flat r.a)) Unfit
-supplied_of (suc zero) r = cond (eq r.c (whole 0)) (Given (Straight r.a r.b)) Unfit
-supplied_of (suc (suc zero)) r = Given (Curved r.a r.b r.c)
-supplied_of (suc (suc (suc n))) r = Unfit
+abbrev pub supplied_of : ℕ → Curve → Option Kind
+supplied_of zero r = cond (eq r.b (whole 0) && eq r.c (whole 0)) (Some (Flat r.a)) None
+supplied_of (suc zero) r = cond (eq r.c (whole 0)) (Some (Straight r.a r.b)) None
+supplied_of (suc (suc zero)) r = Some (Curved r.a r.b r.c)
+supplied_of (suc (suc (suc n))) r = None

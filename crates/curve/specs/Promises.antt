@@ -1,17 +1,17 @@
 -- What holds of a cost curve and of the table of its costs (request F-7), at energies n from 0 to 800; one field for
 -- each promise, and proofs/Promises proves them all. T b says that the test b passes; the numbers are those of the
 -- request. Definitions only. Assumes nothing.
-use Rattle.std.specs.Prelude.{◌≡◌, ◌↔◌, ◌⊎◌, not, List, ℕ, ◌+◌, ◌*◌, ◌%◌, ◌^◌, ◌≤◌, ◌<◌, T, ℤ, pos, length, get_or, drop, Float}
+use Rattle.std.specs.Prelude.{◌≡◌, ◌↔◌, ◌⊎◌, not, List, ℕ, ◌+◌, ◌*◌, ◌%◌, ◌^◌, ◌≤◌, ◌<◌, T, ℤ, pos, length, get_or}
+use Rattle.std.specs.Prelude.{drop, Float, Some, None}
 use Rattle.std.specs.Float.{binary64}
 use Rattle.std.specs.Float.Ieee.{eq, fits, of_bits, to_bits}
 use Rattle.curve.specs.declared.Kind.{Kind}
 use Rattle.curve.specs.declared.Kind.TheVariants.{Flat, Straight, Curved}
 use Rattle.curve.specs.declared.Curve.{Curve}
-use Rattle.curve.specs.declared.Filled.TheVariants.{Done, Refused}
-use Rattle.curve.specs.declared.Supplied.TheVariants.{Given, Unfit}
 use Rattle.curve.specs.Pattern.{scale, field_of, units_of}
 use Rattle.curve.specs.Cost.{whole, allowed, record_of, curved_of, accepted, Usable, pattern_of, entry_of, table_of}
 use Rattle.curve.specs.Cost.{tabled, answer_of, lent_after, supplied_of}
+use Rattle.quantities.specs.Outcomes.{Accepted, Refused}
 
 -- b is the pattern of a number, finite and not below zero; minus zero counts as zero
 pub record Number (b : ℕ) : Type 0 where
@@ -85,12 +85,12 @@ pub record Promises : Type 0 where
   -- a record passes exactly where all three coefficients do
   pub passes : (r : Curve) → T (accepted r) ↔ (T (allowed r.a) × T (allowed r.b) × T (allowed r.c))
   -- the kind that a number tells is given where the record holds its coefficients
-  pub given : (k : Kind) (r : Curve) → Holds k r → supplied_of (kind_number k) r ≡ Given k
+  pub given : (k : Kind) (r : Curve) → Holds k r → supplied_of (kind_number k) r ≡ Some k
   -- none is where an unused coefficient is not 0, or for another number
   pub unused : (r : Curve) → T (not (eq r.c (whole 0)))
-      → (supplied_of 0 r ≡ Unfit) × (supplied_of 1 r ≡ Unfit)
-  pub unused_flat : (r : Curve) → T (not (eq r.b (whole 0))) → supplied_of 0 r ≡ Unfit
-  pub unknown : (n : ℕ) (r : Curve) → 2 < n → supplied_of n r ≡ Unfit
+      → (supplied_of 0 r ≡ None) × (supplied_of 1 r ≡ None)
+  pub unused_flat : (r : Curve) → T (not (eq r.b (whole 0))) → supplied_of 0 r ≡ None
+  pub unknown : (n : ℕ) (r : Curve) → 2 < n → supplied_of n r ≡ None
   -- ---- the table in lent numbers
   -- 16 first, then 10 for less than 801 numbers, both of which leave them; else the table is filled
   pub sixteen : (k : Kind) (lent : List ℤ) → T (not (accepted (record_of k)))
@@ -98,7 +98,7 @@ pub record Promises : Type 0 where
   pub ten : (k : Kind) (lent : List ℤ) → T (accepted (record_of k)) → length lent < 801
       → (answer_of k lent ≡ Refused 10) × (lent_after k lent ≡ lent)
   pub filled : (k : Kind) (lent : List ℤ) → T (accepted (record_of k)) → 801 ≤ length lent
-      → (answer_of k lent ≡ Done) × (lent_after k lent ≡ tabled k lent)
+      → (answer_of k lent ≡ Accepted) × (lent_after k lent ≡ tabled k lent)
   -- it has 801 entries; an entry stands at its place, and the numbers after the table are as lent
   pub entries : (k : Kind) → length (table_of k) ≡ 801
   pub stands : (k : Kind) (lent : List ℤ) (n : ℕ) → n ≤ 800 → get_or (tabled k lent) n (pos 0) ≡ pos (entry_of k n)

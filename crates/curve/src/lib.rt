@@ -1,7 +1,9 @@
-// The boiler maker's cost curve (request F-7): a kind with its coefficients, the record that they travel in, and what
-// comes of taking and of using one. What an hour costs by a curve, and the table of its costs, are defined in specs/;
-// specs/Promises says what holds of them. No function.
+// The boiler maker's cost curve (request F-7): a kind with its coefficients, and the record that they travel in
+// (records). What an hour costs by a curve, and the table of its costs, are defined in specs/; specs/Promises says what
+// holds of them.
 #![tactic(auto)]
+
+pub mod records;
 
 // Half-megawatt-hours: the energy of an hour, at the most; and the costs of a table, one for each energy from 0 on.
 pub const MOST_ENERGY: usize = 800;
@@ -34,18 +36,4 @@ pub struct Curve {
     pub a: f64,
     pub b: f64,
     pub c: f64,
-}
-
-// A kind from outside, or none: an unused coefficient that is not 0, or a number that no kind has.
-#[derive(Clone, Copy)]
-pub enum Supplied {
-    Given(Kind),
-    Unfit,
-}
-
-// What came of filling a table, or the number of the refusal.
-#[derive(Clone, Copy)]
-pub enum Filled {
-    Done,
-    Refused(u8),
 }

@@ -11,18 +11,19 @@ use Rattle.laws.proofs.Tests.{true_to_t, false_to_not}
 use Rattle.curve.specs.declared.Kind.{Kind}
 use Rattle.curve.specs.Cost.{record_of, accepted}
 use Rattle.cases.specs.declared.Case.{Case}
-use Rattle.cases.specs.declared.Outcome.{Outcome}
-use Rattle.cases.specs.declared.Outcome.TheVariants.{Accepted, Refused}
 use Rattle.cases.specs.Refusals.{refusal_of}
 use Rattle.cases.specs.Reads.{outcome_number}
 use Rattle.model.specs.Curves.{not_checked, check_by_curve_of, not_searched, schedule_by_curve_of}
 use Rattle.model.proofs.CurvesLaws.{check_by_curve_of_sixteen, check_by_curve_of_refused, check_by_curve_of_outside}
-use Rattle.model.proofs.CurvesLaws.{schedule_by_curve_of_sixteen, schedule_by_curve_of_refused, schedule_by_curve_of_outside}
+use Rattle.model.proofs.CurvesLaws.{schedule_by_curve_of_sixteen, schedule_by_curve_of_refused}
+use Rattle.model.proofs.CurvesLaws.{schedule_by_curve_of_outside}
 use Rattle.curves.specs.Entered.{read_of, entered_of}
+use Rattle.quantities.specs.Outcomes.{Accepted, Outcome, Refused}
+use Rattle.std.specs.Prelude.{Err, Ok}
 
 abbrev stands : Outcome → Bool
-stands Accepted = true
-stands (Refused n) = false
+stands (Ok tt) = true
+stands (Err n) = false
 
 -- all three pass
 pub record Entered (k : Kind) (o : Outcome) (c : Case) : Type 0 where
@@ -40,9 +41,9 @@ module _ (k : Kind) (c : Case) where
       inside false e x = absurd (true≢false (sym (ap stands x)))
 
       past : T (accepted (record_of k)) → (p : Outcome) → read_of p c ≡ Accepted → Entered k p c
-      past good Accepted x =
+      past good (Ok tt) x =
           record { curve = good; reading = refl; within = inside (eqb (refusal_of c) 0) refl x }
-      past good (Refused n) x = absurd (true≢false (sym (ap stands x)))
+      past good (Err n) x = absurd (true≢false (sym (ap stands x)))
 
       go : (t : Bool) → accepted (record_of k) ≡ t → cond t (read_of o c) (Refused 16) ≡ Accepted → Entered k o c
       go true e x = past (true_to_t (accepted (record_of k)) e) o x
@@ -62,8 +63,8 @@ module _ (k : Kind) (c : Case) where
         beyond good false e x = outside good (eqb-false (refusal_of c) 0 e) ∙ ap refused (ap outcome_number x)
 
         past : T (accepted (record_of k)) → (p : Outcome) → read_of p c ≡ Refused n → asked p ≡ refused n
-        past good Accepted x = beyond good (eqb (refusal_of c) 0) refl x
-        past good (Refused m) x = stopped good m ∙ ap refused (ap outcome_number x)
+        past good (Ok tt) x = beyond good (eqb (refusal_of c) 0) refl x
+        past good (Err m) x = stopped good m.0 ∙ ap refused (ap outcome_number x)
 
         go : (t : Bool) → accepted (record_of k) ≡ t → cond t (read_of o c) (Refused 16) ≡ Refused n
             → asked o ≡ refused n

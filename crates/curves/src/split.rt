@@ -32,16 +32,10 @@ fn even(costs: &[i64], step: HalfMills) -> bool
     requires { (Tabled costs.now) × (length costs.now ≡ costs_length) }
     ensures { result ≡ true → Even costs.now step.0 most_energy }
 {
-    let mut n = 0;
-    while n < MOST_ENERGY {
-        let rise = step_at(costs, n);
-        if money::below(rise, step) {
+    for n in 0..MOST_ENERGY {
+        if step_at(costs, n) != step {
             return false;
         }
-        if money::below(step, rise) {
-            return false;
-        }
-        n += 1;
     }
     true
 }
@@ -69,10 +63,10 @@ pub(crate) fn split_of(costs: &[i64]) -> Split
         × (Pays result.rates (take result.shown costs.now) (cost_at costs.now)) }
 {
     let step = step_at(costs, 0);
-    if money::below(step, HalfMills(0)) {
+    if step < HalfMills(0) {
         return by_table(costs);
     }
-    if money::below(HalfMills(MOST_VARIABLE as i64), step) {
+    if HalfMills(MOST_VARIABLE as i64) < step {
         return by_table(costs);
     }
     if even(costs, step) {

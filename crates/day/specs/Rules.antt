@@ -1,6 +1,7 @@
 -- Rules 21 to 23, the rules of each hour, and the first that a list breaks (document 01, "Rules of a list").
 -- Definitions only. Assumes nothing.
-use Rattle.std.specs.Prelude.{Bool, true, false, ◌&&◌, ◌||◌, cond, List, [], ◌∷◌, ℕ, zero, suc, ◌+◌, ◌-◌, leb, ltb, eqb, length}
+use Rattle.std.specs.Prelude.{Bool, true, false, ◌&&◌, ◌||◌, cond, List, [], ◌∷◌, ℕ, zero, suc, ◌+◌, ◌-◌, leb, ltb}
+use Rattle.std.specs.Prelude.{eqb, length}
 use Rattle.std.proofs.Math.Option.{Option, none, some}
 use Rattle.cases.specs.declared.Case.{Case}
 use Rattle.cases.specs.declared.Breach.{Breach}

@@ -2,7 +2,8 @@
 -- the words of document 01, "Rules of a list", for any marks; the profit by its sums; the first breach; demand 3's
 -- "earns less, or earns the same and is the higher"; and a number in decimal. The promises tie it to Marks,
 -- Constraints, Rules, Profit, Best and Printed; no entry rests on it. Definitions only. Assumes nothing.
-use Rattle.std.specs.Prelude.{◌≡◌, Bool, ◌||◌, cond, List, [], ◌∷◌, ℕ, zero, suc, ◌+◌, ◌*◌, ◌-◌, ◌≤◌, ◌<◌, T, leb, ltb, eqb, ℤ, pos, ◌+ℤ◌, ◌-ℤ◌, ◌*ℤ◌, length, get_or, ◌≤ℤ◌, ◌<ℤ◌}
+use Rattle.std.specs.Prelude.{◌≡◌, Bool, ◌||◌, cond, List, [], ◌∷◌, ℕ, zero, suc, ◌+◌, ◌*◌, ◌-◌, ◌≤◌, ◌<◌, T, leb}
+use Rattle.std.specs.Prelude.{ltb, eqb, ℤ, pos, ◌+ℤ◌, ◌-ℤ◌, ◌*ℤ◌, length, get_or, ◌≤ℤ◌, ◌<ℤ◌}
 use Rattle.cases.specs.declared.Case.{Case}
 use Rattle.cases.specs.Symbols.{sum, bit, stage, hourly, priced}
 use Rattle.day.specs.Marks.{p, y, y_back, z}

@@ -1,20 +1,12 @@
 -- The answers as structs of numbers, by the papers' number and values of each (model's specs/Answers and
 -- specs/Compared), and the calls by a curve that is told by a number (request F-7): 16 where it tells none. Definitions
 -- only. Assumes nothing.
-use Rattle.std.specs.Prelude.{List, ℕ, ℤ}
-use Rattle.curve.specs.declared.Filled.{Filled}
-use Rattle.curve.specs.declared.Filled.TheVariants.{Done, Refused as NotFilled}
-use Rattle.curve.specs.declared.Supplied.{Supplied}
-use Rattle.curve.specs.declared.Supplied.TheVariants.{Given, Unfit}
+use Rattle.std.specs.Prelude.{List, ℕ, ℤ, Result, Option, Some, None}
+use Rattle.curve.specs.declared.Kind.{Kind}
 use Rattle.curve.specs.Cost.{answer_of, lent_after}
 use Rattle.cases.specs.declared.Case.{Case}
-use Rattle.cases.specs.declared.Outcome.TheVariants.{Accepted}
-use Rattle.cases.specs.declared.Verdict.TheVariants.{Refused as NotChecked}
-use Rattle.cases.specs.declared.Plan.TheVariants.{Refused as NotPlanned}
 use Rattle.cases.specs.declared.Reading.{Reading}
-use Rattle.cases.specs.declared.Written.{Written}
 use Rattle.cases.specs.declared.Verdict.{Verdict}
-use Rattle.cases.specs.declared.Plan.{Plan}
 use Rattle.cases.specs.declared.Comparison.{Comparison}
 use Rattle.model.specs.Answers.{Scheduling, verdict_numbers, plan_numbers}
 use Rattle.cases.specs.Reads.{outcome_number, written_numbers}
@@ -25,14 +17,17 @@ use Rattle.giqapsun.specs.declared.GiqapsunWritten.{GiqapsunWritten}
 use Rattle.giqapsun.specs.declared.GiqapsunVerdict.{GiqapsunVerdict}
 use Rattle.giqapsun.specs.declared.GiqapsunPlan.{GiqapsunPlan}
 use Rattle.giqapsun.specs.declared.GiqapsunChoice.{GiqapsunChoice}
+use Rattle.quantities.specs.Outcomes.{Accepted, Refused}
+use Rattle.quantities.specs.declared.Refusal.{Refusal}
+use Rattle.quantities.specs.declared.HalfMills.{HalfMills}
 
 abbrev pub reading_out : Reading → GiqapsunReading
 reading_out r = record { number = outcome_number r.outcome; case = r.case }
 
-abbrev pub written_out : Written → GiqapsunWritten
+abbrev pub written_out : Result ℕ Refusal → GiqapsunWritten
 written_out w = record { number = (written_numbers w).0; length = (written_numbers w).1 }
 
-abbrev pub verdict_out : Verdict → GiqapsunVerdict
+abbrev pub verdict_out : Result Verdict Refusal → GiqapsunVerdict
 verdict_out v =
     record {
       number = (verdict_numbers v).0;
@@ -41,10 +36,10 @@ verdict_out v =
       profit = record { 0 = (verdict_numbers v).3 };
     }
 
-abbrev pub plan_out : Plan → GiqapsunPlan
+abbrev pub plan_out : Result HalfMills Refusal → GiqapsunPlan
 plan_out p = record { number = (plan_numbers p).0; profit = record { 0 = (plan_numbers p).1 } }
 
-abbrev pub choice_out : Comparison → GiqapsunChoice
+abbrev pub choice_out : Result Comparison Refusal → GiqapsunChoice
 choice_out x =
     record {
       number = (comparison_numbers x).0;
@@ -53,21 +48,16 @@ choice_out x =
     }
 
 -- ---- by a curve
--- the number of a filling
-abbrev pub filled_number : Filled → ℕ
-filled_number Done = 0
-filled_number (NotFilled n) = n
-
 -- the table by itself: the number, and the lent numbers after it
-abbrev pub table_by : Supplied → List ℤ → Filling ℕ
-table_by (Given k) table = record { answer = filled_number (answer_of k table); table = lent_after k table }
-table_by Unfit table = record { answer = 16; table = table }
+abbrev pub table_by : Option Kind → List ℤ → Filling ℕ
+table_by (Some k) table = record { answer = outcome_number (answer_of k table); table = lent_after k table }
+table_by None table = record { answer = 16; table = table }
 
-abbrev pub check_by : Supplied → Case → List ℕ → List ℤ → Filling Verdict
-check_by (Given k) c l table = check_by_curve_of k Accepted c l table
-check_by Unfit c l table = record { answer = NotChecked 16; table = table }
+abbrev pub check_by : Option Kind → Case → List ℕ → List ℤ → Filling (Result Verdict Refusal)
+check_by (Some k) c l table = check_by_curve_of k Accepted c l table
+check_by None c l table = record { answer = Refused 16; table = table }
 
-abbrev pub schedule_by : Supplied → Case → List ℤ → List ℤ → List ℕ → Filling Scheduling
-schedule_by (Given k) c table work outputs = schedule_by_curve_of k Accepted c table work outputs
-schedule_by Unfit c table work outputs =
-    record { answer = record { answer = NotPlanned 16; work = work; outputs = outputs }; table = table }
+abbrev pub schedule_by : Option Kind → Case → List ℤ → List ℤ → List ℕ → Filling Scheduling
+schedule_by (Some k) c table work outputs = schedule_by_curve_of k Accepted c table work outputs
+schedule_by None c table work outputs =
+    record { answer = record { answer = Refused 16; work = work; outputs = outputs }; table = table }

@@ -1,21 +1,22 @@
 // The C boundary (include/giqapsun.h): each call takes and gives structs by value, with no logic of its own. The
-// answers' numbers and values are those of model's specs/Answers; specs/Boundary lays them out.
+// answers' numbers and values are those of model's specs/Answers; specs/Boundary lays them out. An answer is a number
+// beside its values, and a kind a number, since the C interface needs it.
 #![tactic(auto)]
 
 ghost use Rattle.std.specs.Prelude.{◌≡◌};
-ghost use Rattle.cases.specs.declared.Outcome.TheVariants.{Accepted};
+ghost use Rattle.quantities.specs.Outcomes.{Accepted};
 ghost use Rattle.cases.specs.Refusals.{work_length};
-ghost use Rattle.cases.specs.Reads.{read_of, write_of};
+ghost use Rattle.cases.specs.Reads.{outcome_number, read_of, write_of};
 ghost use Rattle.model.specs.Answers.{check_of, schedule_of};
 ghost use Rattle.model.specs.Compared.{compared_of};
 ghost use Rattle.model.specs.Calendar.{calendar_of};
 ghost use Rattle.curve.specs.Cost.{supplied_of};
 ghost use Rattle.giqapsun.specs.Boundary.{reading_out, written_out, verdict_out, plan_out, choice_out};
-ghost use Rattle.giqapsun.specs.Boundary.{filled_number, table_by, check_by, schedule_by};
+ghost use Rattle.giqapsun.specs.Boundary.{table_by, check_by, schedule_by};
 
-use cases::{Case, Comparison, Outcome, Plan, Reading, Verdict, Written};
-use curve::{Curve, Filled, Supplied};
-use quantities::{HalfMills, Hour};
+use cases::{Case, Comparison, Reading, Verdict};
+use curve::Curve;
+use quantities::{HalfMills, Hour, Refusal};
 
 // The number of a refusal, or 0, and the record: zeros beside a refusal.
 #[repr(C)]
@@ -60,90 +61,108 @@ pub struct GiqapsunChoice {
     pub profit: HalfMills,
 }
 
-fn reading_out(reading: Reading) -> GiqapsunReading
-    ensures { result ≡ reading_out reading }
+// The number of a refusal, or 0: a function, since an `impl` of `From` for a number of another crate is refused.
+fn number_out(outcome: Result<(), Refusal>) -> u32
+    ensures { result ≡ outcome_number outcome }
 {
-    let outcome = reading.outcome;
-    let case = reading.case;
-    GiqapsunReading {
-        number: limits::number(outcome) as u32,
-        case,
+    match outcome {
+        Ok(()) => 0,
+        Err(refusal) => u32::from(refusal.0),
     }
 }
 
-fn written_out(written: Written) -> GiqapsunWritten
-    ensures { result ≡ written_out written }
-{
-    match written {
-        Written::Bytes(length) => GiqapsunWritten { number: 0, length },
-        Written::Refused(number) => GiqapsunWritten {
-            number: number as u32,
-            length: 0,
-        },
+impl From<Reading> for GiqapsunReading {
+    ghost from_gives = { λ reading out. out ≡ reading_out reading };
+
+    fn from(reading: Reading) -> Self {
+        GiqapsunReading {
+            number: number_out(reading.outcome),
+            case: reading.case,
+        }
     }
 }
 
-fn verdict_out(verdict: Verdict) -> GiqapsunVerdict
-    ensures { result ≡ verdict_out verdict }
-{
-    match verdict {
-        Verdict::Passes(profit) => GiqapsunVerdict {
-            number: 0,
-            hour: 0,
-            rule: 0,
-            profit,
-        },
-        Verdict::Breaks(breach) => GiqapsunVerdict {
-            number: 0,
-            hour: breach.hour.0 as u32,
-            rule: breach.rule as u32,
-            profit: HalfMills(0),
-        },
-        Verdict::Refused(number) => GiqapsunVerdict {
-            number: number as u32,
-            hour: 0,
-            rule: 0,
-            profit: HalfMills(0),
-        },
+impl From<Result<usize, Refusal>> for GiqapsunWritten {
+    ghost from_gives = { λ written out. out ≡ written_out written };
+
+    fn from(written: Result<usize, Refusal>) -> Self {
+        match written {
+            Ok(length) => GiqapsunWritten { number: 0, length },
+            Err(refusal) => GiqapsunWritten {
+                number: u32::from(refusal.0),
+                length: 0,
+            },
+        }
     }
 }
 
-fn plan_out(plan: Plan) -> GiqapsunPlan
-    ensures { result ≡ plan_out plan }
-{
-    match plan {
-        Plan::Found(profit) => GiqapsunPlan { number: 0, profit },
-        Plan::Refused(number) => GiqapsunPlan {
-            number: number as u32,
-            profit: HalfMills(0),
-        },
+impl From<Result<Verdict, Refusal>> for GiqapsunVerdict {
+    ghost from_gives = { λ verdict out. out ≡ verdict_out verdict };
+
+    fn from(verdict: Result<Verdict, Refusal>) -> Self {
+        match verdict {
+            Ok(Verdict::Passes(profit)) => GiqapsunVerdict {
+                number: 0,
+                hour: 0,
+                rule: 0,
+                profit,
+            },
+            Ok(Verdict::Breaks(breach)) => GiqapsunVerdict {
+                number: 0,
+                hour: u32::from(breach.hour.0),
+                rule: u32::from(breach.rule),
+                profit: HalfMills(0),
+            },
+            Err(refusal) => GiqapsunVerdict {
+                number: u32::from(refusal.0),
+                hour: 0,
+                rule: 0,
+                profit: HalfMills(0),
+            },
+        }
     }
 }
 
-fn choice_out(comparison: Comparison) -> GiqapsunChoice
-    ensures { result ≡ choice_out comparison }
-{
-    match comparison {
-        Comparison::First(profit) => GiqapsunChoice {
-            number: 0,
-            which: 1,
-            profit,
-        },
-        Comparison::Second(profit) => GiqapsunChoice {
-            number: 0,
-            which: 2,
-            profit,
-        },
-        Comparison::Neither => GiqapsunChoice {
-            number: 0,
-            which: 0,
-            profit: HalfMills(0),
-        },
-        Comparison::Refused(number) => GiqapsunChoice {
-            number: number as u32,
-            which: 0,
-            profit: HalfMills(0),
-        },
+impl From<Result<HalfMills, Refusal>> for GiqapsunPlan {
+    ghost from_gives = { λ plan out. out ≡ plan_out plan };
+
+    fn from(plan: Result<HalfMills, Refusal>) -> Self {
+        match plan {
+            Ok(profit) => GiqapsunPlan { number: 0, profit },
+            Err(refusal) => GiqapsunPlan {
+                number: u32::from(refusal.0),
+                profit: HalfMills(0),
+            },
+        }
+    }
+}
+
+impl From<Result<Comparison, Refusal>> for GiqapsunChoice {
+    ghost from_gives = { λ comparison out. out ≡ choice_out comparison };
+
+    fn from(comparison: Result<Comparison, Refusal>) -> Self {
+        match comparison {
+            Ok(Comparison::First(profit)) => GiqapsunChoice {
+                number: 0,
+                which: 1,
+                profit,
+            },
+            Ok(Comparison::Second(profit)) => GiqapsunChoice {
+                number: 0,
+                which: 2,
+                profit,
+            },
+            Ok(Comparison::Neither) => GiqapsunChoice {
+                number: 0,
+                which: 0,
+                profit: HalfMills(0),
+            },
+            Err(refusal) => GiqapsunChoice {
+                number: u32::from(refusal.0),
+                which: 0,
+                profit: HalfMills(0),
+            },
+        }
     }
 }
 
@@ -152,7 +171,7 @@ fn as_read(case: Case) -> Reading
     ensures { result ≡ record { outcome = Accepted; case = case } }
 {
     Reading {
-        outcome: Outcome::Accepted,
+        outcome: Ok(()),
         case,
     }
 }
@@ -162,7 +181,7 @@ fn as_read(case: Case) -> Reading
 pub extern "C" fn giqapsun_read_4(file: &[u8]) -> GiqapsunReading
     ensures { result ≡ reading_out (read_of file.now) }
 {
-    reading_out(codec::read(file))
+    GiqapsunReading::from(codec::read(file))
 }
 
 // Writes the file of a record to the front of the lent bytes; those past it, and all of them on a refusal, stay as
@@ -172,7 +191,7 @@ pub extern "C" fn giqapsun_write_4(case: Case, bytes: &mut [u8]) -> GiqapsunWrit
     ensures answer { result ≡ written_out (write_of case bytes.old).answer }
     ensures lent { bytes.new ≡ (write_of case bytes.old).lent }
 {
-    written_out(codec::write(case, bytes))
+    GiqapsunWritten::from(codec::write(case, bytes))
 }
 
 // The verdict of a list with a record.
@@ -180,7 +199,7 @@ pub extern "C" fn giqapsun_write_4(case: Case, bytes: &mut [u8]) -> GiqapsunWrit
 pub extern "C" fn giqapsun_check_4(case: Case, list: &[u16]) -> GiqapsunVerdict
     ensures { result ≡ verdict_out (check_of Accepted case list.now) }
 {
-    verdict_out(rules::check(codec::admit(case), list))
+    GiqapsunVerdict::from(rules::check(as_read(case), list))
 }
 
 // Which of two lists to offer with a record.
@@ -188,7 +207,7 @@ pub extern "C" fn giqapsun_check_4(case: Case, list: &[u16]) -> GiqapsunVerdict
 pub extern "C" fn giqapsun_better_4(case: Case, first: &[u16], second: &[u16]) -> GiqapsunChoice
     ensures { result ≡ choice_out (compared_of Accepted case first.now second.now) }
 {
-    choice_out(offers::compare(codec::admit(case), first, second))
+    GiqapsunChoice::from(offers::compare(as_read(case), first, second))
 }
 
 // How many numbers a search of a record is to be lent.
@@ -210,7 +229,7 @@ pub extern "C" fn giqapsun_best_4(case: Case, work: &mut [i64], outputs: &mut [u
     ensures outputs { outputs.new
         ≡ (schedule_of Accepted case work.old outputs.old).outputs }
 {
-    plan_out(best::schedule(codec::admit(case), work, outputs))
+    GiqapsunPlan::from(best::schedule(as_read(case), work, outputs))
 }
 
 // The best list of a record on the day that a calendar orders: the on-line and the off-line windows, and the day's
@@ -234,16 +253,15 @@ pub extern "C" fn giqapsun_best_by_calendar_4(
         ≡ (calendar_of Accepted case on.now off.now first.0 hours.0 work.old
         outputs.old).outputs }
 {
-    plan_out(calendar::schedule_by_calendar(as_read(case), on, off, first, hours, work, outputs))
-}
-
-fn filled_number(filled: Filled) -> u8
-    ensures { result ≡ filled_number filled }
-{
-    match filled {
-        Filled::Done => 0,
-        Filled::Refused(number) => number,
-    }
+    GiqapsunPlan::from(calendar::schedule_by_calendar(
+        as_read(case),
+        on,
+        off,
+        first,
+        hours,
+        work,
+        outputs,
+    ))
 }
 
 // The costs of a curve, told by the number of its kind, to the front of the lent numbers: 0, or the number of a
@@ -253,11 +271,10 @@ pub extern "C" fn giqapsun_table_4(kind: u16, curve: Curve, table: &mut [i64]) -
     ensures answer { result ≡ (table_by (supplied_of kind curve) table.old).answer }
     ensures table { table.new ≡ (table_by (supplied_of kind curve) table.old).table }
 {
-    let supplied = costs::kind_of(kind, curve);
-    let Supplied::Given(known) = supplied else {
+    let Some(known) = costs::kind_of(kind, curve) else {
         return 16;
     };
-    filled_number(costs::fill_table(known, table)) as u32
+    number_out(costs::fill_table(known, table))
 }
 
 // The verdict of a list with a record, by a curve. The table is filled unless the call is refused.
@@ -274,11 +291,10 @@ pub extern "C" fn giqapsun_check_by_curve_4(
     ensures table { table.new ≡ (check_by (supplied_of kind curve) case list.now
         table.old).table }
 {
-    let supplied = costs::kind_of(kind, curve);
-    let Supplied::Given(known) = supplied else {
-        return verdict_out(Verdict::Refused(16));
+    let Some(known) = costs::kind_of(kind, curve) else {
+        return GiqapsunVerdict::from(Err(Refusal(16)));
     };
-    verdict_out(curves::check_by_curve(as_read(case), known, list, table))
+    GiqapsunVerdict::from(curves::check_by_curve(as_read(case), known, list, table))
 }
 
 // The best list of a record by a curve, in the first outputs; the table is filled and the first working numbers are
@@ -301,9 +317,8 @@ pub extern "C" fn giqapsun_best_by_curve_4(
     ensures outputs { outputs.new ≡ (schedule_by (supplied_of kind curve) case table.old
         work.old outputs.old).answer.outputs }
 {
-    let supplied = costs::kind_of(kind, curve);
-    let Supplied::Given(known) = supplied else {
-        return plan_out(Plan::Refused(16));
+    let Some(known) = costs::kind_of(kind, curve) else {
+        return GiqapsunPlan::from(Err(Refusal(16)));
     };
-    plan_out(curves::schedule_by_curve(as_read(case), known, table, work, outputs))
+    GiqapsunPlan::from(curves::schedule_by_curve(as_read(case), known, table, work, outputs))
 }

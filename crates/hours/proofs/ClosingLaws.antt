@@ -1,16 +1,22 @@
 -- The mark of a day that closes at an entry of the shut-down trajectory, by the tests that it passes. Assumes nothing.
-use mathlib.Core.Path.{◌≡◌, ap, ◌∙◌}
-use mathlib.Core.Bool.{◌&&◌}
+use mathlib.Core.Path.{◌≡◌, refl, ap, ◌∙◌}
+use mathlib.Core.Bool.{Bool, true, false, ◌&&◌}
 use mathlib.Core.List.{List}
 use Prim.Native.Nat.{ℕ, ◌+◌, ◌-◌, ◌≤◌, ◌<◌}
 use native.Mathlib.Omega.{arith}
 use borrow.Author.Tests.{lt-leb, le-leb}
+use mir.Val.{bool_byte}
 use lib.Dec.{leb, eqb}
 use lib.ListN.{get_or}
 use Rattle.laws.proofs.Tests.{and_false}
 use Rattle.quantities.specs.declared.Output.{Output}
 use Rattle.cases.specs.Symbols.{bit, stage}
 use Rattle.day.proofs.ConstraintsLaws.{stage_more}
+
+-- a test as a number
+pub bit_is : (b : Bool) → bool_byte b ≡ bit b
+bit_is true = refl
+bit_is false = refl
 
 -- entry i of n, at which output a is held against output b
 module _ (i n a b : ℕ) where

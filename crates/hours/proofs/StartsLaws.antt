@@ -2,7 +2,7 @@
 use mathlib.Core.Path.{◌≡◌, sym, ap, ◌∙◌}
 use mathlib.Core.List.{List}
 use Prim.Native.Nat.{ℕ, suc, ◌+◌, ◌-◌, ◌≤◌, ◌<◌}
-use native.Mathlib.Decide.{dec_lt}
+use native.Mathlib.Decide.{dec_lt, ℕ_discrete}
 use native.Mathlib.Omega.{arith}
 use borrow.Author.Tests.{eq-eqb, ne_eqb}
 use lib.Dec.{eqb}
@@ -20,15 +20,15 @@ use Rattle.hours.proofs.CountLaws.{counted_back}
 
 module _ (c : Case) (l : List ℕ) where
   -- the start in which the day opens stands at hour 1 − stage; no other hour below 1 is marked
-  pub start_opening : (n : ℕ) → n ≤ most_stages → n + up_stage c ≡ most_stages + 1 → start_of c l n ≡ 1
-  start_opening n h e =
+  pub start_below : (n : ℕ) → n ≤ most_stages → start_of c l n ≡ bit (eqb (n + up_stage c) (most_stages + 1))
+  start_below n h =
       y_back_out c l n (suc most_stages) (omega arith)
-      ∙ ap bit (eq-eqb (suc most_stages - n) (up_stage c) (omega arith))
-
-  pub start_below : (n : ℕ) → n ≤ most_stages → (n + up_stage c ≡ most_stages + 1 → ⊥) → start_of c l n ≡ 0
-  start_below n h m =
-      y_back_out c l n (suc most_stages) (omega arith)
-      ∙ ap bit (ne_eqb (suc most_stages - n) (up_stage c) (λ e. m (omega arith)))
+      ∙ ap bit (go (ℕ_discrete (n + up_stage c) (most_stages + 1)))
+    where
+      go : Dec (n + up_stage c ≡ most_stages + 1)
+          → eqb (suc most_stages - n) (up_stage c) ≡ eqb (n + up_stage c) (most_stages + 1)
+      go (yes e) = eq-eqb _ _ (omega arith) ∙ sym (eq-eqb _ _ e)
+      go (no e) = ne_eqb _ _ (λ d. e (omega arith)) ∙ sym (ne_eqb _ _ e)
 
   -- from hour 1 on they are those of the list
   pub start_later : (n : ℕ) → most_stages < n → start_of c l n ≡ y c l (n - most_stages)
@@ -39,7 +39,9 @@ module _ (c : Case) (l : List ℕ) where
 
   -- hour 0 of the places is too early for a stage
   pub start_zero : Limits c → start_of c l 0 ≡ 0
-  start_zero lim = start_below 0 (omega arith) (λ e. omega (arith, (stages_le c lim).0, lim.rises_le))
+  start_zero lim =
+      start_below 0 (omega arith)
+      ∙ ap bit (ne_eqb (0 + up_stage c) (most_stages + 1) (λ e. omega (arith, (stages_le c lim).0, lim.rises_le)))
 
   -- y(k−i+1), by its place
   pub start_back : (k i : ℕ) → i ≤ suc most_stages → start_of c l (k + most_stages + 1 - i) ≡ y_back c l k i

@@ -3,3 +3,4 @@ pub mod Marked
 pub mod Counted
 pub mod Staged
 pub mod Numbered
+pub mod Of

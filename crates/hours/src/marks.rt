@@ -16,25 +16,23 @@ pub struct Marks {
 }
 
 // p(k)
-pub fn output_at(case: Case, list: &[u16], k: Hour) -> Output
-    ensures { result.0 ≡ p case list.now k.0 }
+pub fn output_at(case: &Case, list: &[u16], k: Hour) -> Output
+    ensures { result.0 ≡ p case.now list.now k.0 }
 {
-    let at = k.0 as usize;
-    if at == 0 {
+    if k == Hour(0) {
         return case.initial;
     }
-    let i = at - 1;
-    if i < list.len() {
-        return Output(list[i]);
+    match list.get(usize::from(k.0) - 1) {
+        Some(&output) => Output(output),
+        None => Output(0),
     }
-    Output(0)
 }
 
 // 1 where the unit is on-line at p.
 fn online(p: Output) -> u8
     ensures { Online p.0 result }
 {
-    if 0 < p.0 { 1 } else { 0 }
+    u8::from(Output(0) < p)
 }
 
 // Of the marks of two outputs: 1 where the unit is off-line at the first and on-line at the second.

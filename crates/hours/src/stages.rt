@@ -32,22 +32,14 @@ pub fn sequence_at(stages: [Output; STAGES], n: usize, counts: &[u8; COUNTS], k:
 {
     let mut hour = k.next();
     let marks = between(counts, hour.less(Hour(n as u16)), hour);
-    let mut total = Output(0);
+    let mut output = Output(0);
     if marks == 0 {
-        return Sequence {
-            marks: 0,
-            output: total,
-        };
+        return Sequence { marks, output };
     }
-    let mut i = 0;
-    while i < n {
+    for i in 0..n {
         hour = hour.less(Hour(1));
         let mark = between(counts, hour, hour.next());
-        total = total.plus(marked(stages[i], mark));
-        i += 1;
+        output = output.plus(marked(stages[i], mark));
     }
-    Sequence {
-        marks: marks,
-        output: total,
-    }
+    Sequence { marks, output }
 }

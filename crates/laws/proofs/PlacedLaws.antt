@@ -1,12 +1,11 @@
--- A list that is written place by place, in either direction, and one that is filled from the front. Assumes nothing.
+-- A list that is written place by place, in either direction. Assumes nothing.
 use mathlib.Core.Path.{◌≡◌, refl, sym, ap, ◌∙◌}
 use mathlib.Core.Logic.{⊎_elim}
-use mathlib.Core.List.{List, [], ◌∷◌, ◌++◌}
-use Prim.Native.Nat.{ℕ, zero, suc, ◌+◌, ◌≤◌, ◌<◌}
+use mathlib.Core.List.{List}
+use Prim.Native.Nat.{ℕ, ◌+◌, ◌≤◌, ◌<◌}
 use native.Mathlib.Omega.{arith}
-use native.Mathlib.Nat.{eq-or-lt_of_le, not-suc-le-zero, le_of_suc-le-suc}
-use native.Mathlib.Numerals.{add-one}
-use lib.ListN.{length, get_or, set, drop, replicate, length-set}
+use native.Mathlib.Nat.{eq-or-lt_of_le}
+use lib.ListN.{length, get_or, set, length-set}
 use lib.Seq.{get_or-set_same, get_or-set_other}
 use Rattle.laws.specs.Placed.{Part}
 
@@ -50,15 +49,3 @@ module _ {A : Type 0} (d : A) where
           other = λ k off. there ys (at + a) x r k (off a (omega arith) h)
               ∙ p.other k (λ j l m. off j (omega arith) m);
         }
-
-module _ {A : Type 0} where
-  fill_suc : (n : ℕ) (v : A) (xs : List A) → n < length xs
-      → set (replicate n v ++ drop n xs) n v ≡ replicate (suc n) v ++ drop (suc n) xs
-  fill_suc n v [] l = absurd (not-suc-le-zero l)
-  fill_suc zero v (x ∷ xs) l = refl
-  fill_suc (suc n) v (x ∷ xs) l = ap (λ (t : List A). v ∷ t) (fill_suc n v xs (le_of_suc-le-suc l))
-
-  -- one more place of a list that is filled with v from the front
-  pub fill_more : (n : ℕ) (v : A) (xs : List A) → n < length xs
-      → set (replicate n v ++ drop n xs) n v ≡ replicate (n + 1) v ++ drop (n + 1) xs
-  fill_more n v xs l = rw add-one (fill_suc n v xs l)

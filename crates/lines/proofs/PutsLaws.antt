@@ -1,21 +1,13 @@
 -- Laws of a text that is put at a place: nothing, one byte more, and one text after the other. Assumes nothing.
 use mathlib.Core.Path.{◌≡◌, refl, sym, ap, ◌∙◌}
-use mathlib.Core.List.{List, [], ◌∷◌, ◌++◌}
-use Prim.Native.Nat.{ℕ, ◌+◌, ◌≤◌, ◌<◌}
+use mathlib.Core.List.{List, [], ◌++◌}
+use Prim.Native.Nat.{ℕ, ◌+◌, ◌≤◌}
 use native.Mathlib.Nat.{add-zero}
 use native.Mathlib.Omega.{arith}
-use native.Mathlib.Numerals.{add-one}
-use lib.ListN.{length, get_or, set, take, drop, length-append, length-take}
-use lib.Seq.{sets, length-sets, take-suc, take_at}
+use lib.ListN.{length, take, drop, length-append}
+use lib.Seq.{sets, length-sets, take_at}
 use Rattle.cases.proofs.SetsLaws.{sets_next, sets_front}
 use Rattle.lines.specs.Puts.{Puts}
-
--- the first i bytes of a part, and one more
-pub sets_byte : (l part : List ℕ) {l₁ : List ℕ} (at i : ℕ) → i < length part → l₁ ≡ sets l at (take i part)
-    → set l₁ (at + i) (get_or part i 0) ≡ sets l at (take (i + 1) part)
-sets_byte l part at i h e =
-    rw (add-one, take-suc part i 0 h)
-    (sets_next l (take i part) (get_or part i 0 ∷ []) at i (omega (arith, length-take i part)) e refl)
 
 pub puts_none : (l : List ℕ) (at : ℕ) → Puts l at [] l at
 puts_none l at = record { bytes = refl; place = sym (add-zero at) }

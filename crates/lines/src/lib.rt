@@ -20,7 +20,7 @@ pub fn put_refused(out: &mut [u8], number: u8) -> usize
     ensures { Puts out.old 0 (refused_line number) out.new result }
 {
     let at = put(out, 0, b"refused ");
-    put_field(out, at, number as u64, b"\n")
+    put_field(out, at, u64::from(number), b"\n")
 }
 
 // Puts the sign of an amount.
@@ -28,7 +28,7 @@ fn put_sign(out: &mut [u8], at: usize, v: HalfMills) -> usize
     requires { at + length (sign v.0) ≤ length out.old }
     ensures { Puts out.old at (sign v.0) out.new result }
 {
-    if money::below(v, HalfMills(0)) {
+    if v < HalfMills(0) {
         return put(out, at, b"-");
     }
     at
@@ -50,9 +50,10 @@ fn put_hour(out: &mut [u8], at: usize, hour: Hour, before: Output, output: Outpu
     ensures { Puts out.old at (hour_line hour.0 output.0 (output.0 + before.0))
         out.new result }
 {
-    let first = put_field(out, at, hour.0 as u64, b" ");
-    let second = put_field(out, first, output.0 as u64, b" ");
-    put_field(out, second, output.0 as u64 + before.0 as u64, b"\n")
+    let first = put_field(out, at, u64::from(hour.0), b" ");
+    let second = put_field(out, first, u64::from(output.0), b" ");
+    let half_hours = u64::from(output.0) + u64::from(before.0);
+    put_field(out, second, half_hours, b"\n")
 }
 
 // Puts the hours of a case with a list that has them.
@@ -64,12 +65,11 @@ fn put_hours(out: &mut [u8], at: usize, case: Case, outputs: &[u16]) -> usize
 {
     let mut before = case.initial;
     let mut next = at;
-    let mut i = 0;
-    while i < case.hours {
+    for i in 0..case.hours {
         let output = Output(outputs[i]);
+        // a cast, since `From` does not narrow and `try_from` would test what is asked
         next = put_hour(out, next, Hour(i as u16 + 1), before, output);
         before = output;
-        i += 1;
     }
     next
 }

@@ -3,9 +3,7 @@ use mathlib.Core.Path.{◌≡◌, subst}
 use mathlib.Core.List.{List}
 use Prim.Native.Nat.{ℕ, ◌≤◌}
 use native.Mathlib.Omega.{arith}
-use lib.ListN.{length}
 use lib.IntN.{ℤ}
-use Rattle.machine.specs.Lengths.{kept_length}
 use Rattle.machine.specs.declared.Unit.{Unit}
 use Rattle.machine.specs.Moves.{Tariff}
 use Rattle.slots.proofs.SpannedLaws.{spanned_from}
@@ -15,16 +13,6 @@ use Rattle.locks.specs.Held.{Holds, Free}
 module _ (u : Unit) (day : ℕ → Tariff) where
   pub free_at : {a b : ℕ} (l c : ℕ) (xs : List ℤ) → a ≡ b → Free u day l a c xs → Free u day l b c xs
   free_at l c xs e f = subst (λ n. Free u day l n c xs) e f
-
-  -- nothing is there
-  pub holds_start : (a : ℕ) {xs : List ℤ} → length xs ≡ kept_length → Holds u day a 0 0 xs
-  holds_start a e =
-      record {
-        long = e;
-        few = omega arith;
-        rows = λ some. absurd (omega arith);
-        layers = λ none. record { long = e; at = λ h b l. absurd (omega arith) };
-      }
 
   pub holds_from : {a b c : ℕ} (k : ℕ) {xs : List ℤ} → a ≤ k → Holds u day a b c xs → Holds u day k b c xs
   holds_from k h r =

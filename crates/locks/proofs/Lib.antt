@@ -1,3 +1,4 @@
 -- Laws behind the kept rows of a lock.
 pub mod LockedLaws
 pub mod HeldLaws
+pub mod PutLaws

@@ -11,25 +11,14 @@ use lib.Dec.{leb}
 use lib.ListN.{length, get_or}
 use lib.IntN.{ℤ, pos}
 use Rattle.laws.specs.Placed.{Part}
-use Rattle.cases.specs.Limits.{most_time}
 use Rattle.machine.specs.Lengths.{place_length, kept_length}
 use Rattle.machine.specs.declared.Unit.{Unit}
 use Rattle.machine.specs.Moves.{Tariff}
-use Rattle.machine.specs.declared.State.{State}
-use Rattle.machine.specs.declared.State.TheVariants.{Off, Rise, Run, Fall}
-use Rattle.machine.specs.Proper.{Proper}
 use Rattle.machine.specs.Moves.{worth, Worths}
-use Rattle.cells.specs.Table.{Row, lock_of, cells_of}
+use Rattle.cells.specs.Table.{Row, cells_of}
 use Rattle.cells.proofs.Ends.{row_to, row_over, row_at}
 use Rattle.slots.specs.Saved.{RowAt}
 use Rattle.locks.specs.Locked.{Locked, lock_end}
-
--- the hours to go of a state are those of a minimum time
-pub lock_small : (u : Unit) (s : State) → Proper u s → lock_of s ≤ most_time
-lock_small u (Off d) p = omega arith
-lock_small u (Rise i) p = omega arith
-lock_small u (Run r j) p = p.2
-lock_small u (Fall i) p = omega arith
 
 pub row_few : {u : Unit} {w : Worths} {j m n : ℕ} {xs : List ℤ} → m ≡ n → Row u w j m xs → Row u w j n xs
 row_few {u} {w} {j} {m} {n} {xs} e r = subst (λ i. Row u w j i xs) e r

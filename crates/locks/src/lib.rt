@@ -5,23 +5,24 @@
 
 ghost use Rattle.std.specs.Prelude.{◌≡◌, suc, ◌+◌, ◌-◌, ◌≤◌, ◌<◌, min, length, get_or, pos};
 ghost use Rattle.laws.specs.Placed.{Part};
-ghost use Rattle.machine.specs.Moves.{day_of};
 ghost use Rattle.machine.specs.Fit.{Fit};
 ghost use Rattle.machine.specs.Proper.{Proper};
-ghost use Rattle.cells.specs.Table.{Entries, Day, lock_of};
-ghost use Rattle.slots.specs.Saved.{Slotted, Saved};
+ghost use Rattle.cells.specs.Ahead.{tariffs};
+ghost use Rattle.cells.specs.Table.{lock_of};
 ghost use Rattle.locks.specs.Locked.{Locked, lock_end};
-ghost use Rattle.machine.specs.Lengths.{most_places, kept_length};
+ghost use Rattle.machine.specs.Lengths.{most_places};
 
-use machine::{Charges, ENTRIES, KEPT, PLACE, PLACES, ROW, SIDE, State, Unit};
+use machine::{KEPT, PLACE, PLACES, ROW, SIDE, State, Unit};
 use quantities::Hour;
+use slots::passed::Passed;
 
-// What is kept of the hours ahead: rows of a lock, by the hour at which it ends, or layers, where that is 0; and the
-// hour before which they end.
-#[derive(Clone, Copy)]
+// What is kept of the hours ahead: rows of a lock, by the hour at which it ends, or layers, where that is 0; the hour
+// before which they end; and their numbers.
+#[derive(Drop)]
 pub struct Held {
     pub end: Hour,
     pub to: Hour,
+    pub numbers: [i64; KEPT],
 }
 
 // The hour at which the rows that state s looks at after hour k come to the end of its lock, or of the day.
@@ -30,8 +31,8 @@ pub fn end_of(u: Unit, k: Hour, s: State) -> Hour
     requires k_lt_hours { (k.0 < u.hours.0) × (Proper u s) }
     ensures { result.0 ≡ lock_end u (suc k.0) (lock_of s - 1) }
 {
-    let left = choices::lock_of(s).less(Hour(1));
-    Hour(k.0 + 1 + left.0).least(u.hours)
+    let left = choices::lock_of(s).0.saturating_sub(1);
+    Hour(k.0 + 1 + left).min(u.hours)
 }
 
 // The first n of a row into the kept numbers, from `off` on.
@@ -40,59 +41,27 @@ pub fn put(kept: &mut [i64; KEPT], off: usize, row: &[i64; ROW], n: usize)
     ensures { Part (pos 0) kept.old kept.new off 0 n
         (λ i. get_or row.now i (pos 0)) }
 {
-    slots::copy_out(kept, off, row, n);
+    kept[off..off + n].copy_from_slice(&row[..n]);
 }
 
 // The rows of a lock that ends at hour b, from hour k on, of as many hours as there are places.
-pub fn fill(
-    u: Unit,
-    charges: Charges,
-    margins: &[i64],
-    orders: &[u8],
-    costs: &[i64],
-    k: Hour,
-    b: Hour,
-    l: Hour,
-    n: usize,
-    entries: &[i64; ENTRIES],
-    work: &[i64],
-    kept: &mut [i64; KEPT],
-) -> Held
-    requires fit { Fit u }
-    requires day { Day u margins.now orders.now charges costs.now }
-    requires k_le_b { (k.0 ≤ b.0) × (b.0 ≤ u.hours.0) × (Slotted u l.0 n (length work.now)) }
-    requires entries { (Entries u (day_of margins.now orders.now charges costs.now) 0 entries.now)
-        × (Saved u (day_of margins.now orders.now charges costs.now) l.0 n 0 work.now) }
-    requires kept_len { length kept.old ≡ kept_length }
-    ensures { (result.end.0 ≡ b.0) × (result.to.0 ≡ min b.0 (k.0 + most_places))
-        × (Locked u (day_of margins.now orders.now charges costs.now) k.0
-        result.to.0 b.0
-        kept.new) }
+pub fn fill(passed: &Passed<'_>, k: Hour, b: Hour, held: &mut Held)
+    requires k_le_b { (k.0 ≤ b.0) × (b.0 ≤ passed.now.day.unit.hours.0) }
+    ensures { (held.new.end.0 ≡ b.0) × (held.new.to.0 ≡ min b.0 (k.0 + most_places))
+        × (Locked passed.now.day.unit (tariffs passed.now.day) k.0 held.new.to.0 b.0 held.new.numbers) }
 {
-    let to = b.least(Hour(k.0 + PLACES as u16));
+    let day = passed.day;
+    let to = b.min(Hour(k.0 + PLACES as u16));
     let mut row = [0i64; ROW];
     let mut side = [0i64; SIDE];
-    slots::layer_at(
-        u, charges, margins, orders, costs, b, l, n, entries, work, &mut row, &mut side,
-    );
-    let wide = rows::cells_of(u);
-    rows::lock_down(
-        u,
-        charges,
-        margins,
-        orders,
-        costs,
-        to,
-        b.less(to),
-        wide,
-        &mut row,
-    );
-    let mut h = to;
-    while k.0 < h.0 {
-        h = Hour(h.0 - 1);
-        rows::lock_hour(u, charges, margins, orders, costs, h, wide, &mut row);
-        let at = (to.0 - h.0 - 1) as usize;
-        put(kept, at * PLACE, &row, wide);
+    slots::layer_at(passed, b, &mut row, &mut side);
+    let wide = rows::cells_of(day.unit);
+    rows::lock_down(&day, to, Hour(b.0 - to.0), wide, &mut row);
+    for h in (k.0..to.0).rev() {
+        rows::lock_hour(&day, Hour(h), wide, &mut row);
+        let at = (to.0 - h - 1) as usize;
+        put(&mut held.numbers, at * PLACE, &row, wide);
     }
-    Held { end: b, to }
+    held.end = b;
+    held.to = to;
 }

@@ -7,10 +7,8 @@ use native.Mathlib.Decide.{ℕ_discrete}
 use lib.Dec.{T}
 use lib.ListN.{length}
 use Rattle.cases.specs.declared.Case.{Case}
-use Rattle.cases.specs.declared.Outcome.{Outcome}
-use Rattle.cases.specs.declared.Outcome.TheVariants.{Accepted, Refused}
 use Rattle.cases.specs.declared.Comparison.{Comparison}
-use Rattle.cases.specs.declared.Comparison.TheVariants.{First, Second, Neither, Refused as NotCompared}
+use Rattle.cases.specs.declared.Comparison.TheVariants.{First, Second, Neither}
 use Rattle.cases.specs.Symbols.{last}
 use Rattle.day.specs.Rules.{keeps}
 use Rattle.day.specs.Profit.{profit_of}
@@ -22,9 +20,12 @@ use Rattle.model.specs.Promises.{HandsBack, one, two, empty, EitherWay}
 use Rattle.day.proofs.KeepsLaws.{kept_length}
 use Rattle.model.proofs.LeadsLaws.{leads_behind}
 use Rattle.model.proofs.ComparedLaws.{fails, Settled, first, second, neither, short, settled, compared_of_outside}
+use Rattle.quantities.specs.Outcomes.{Accepted, Outcome, Refused}
+use Rattle.std.specs.Prelude.{Result, Ok, Err}
+use Rattle.quantities.specs.declared.Refusal.{Refusal}
 
 -- the part by the comparison
-pub better_of_by : (o : Outcome) (c : Case) (a b : Part) {x : Comparison} → x ≡ compared_of o c a.outputs b.outputs
+pub better_of_by : (o : Outcome) (c : Case) (a b : Part) {x : Result Comparison Refusal} → x ≡ compared_of o c a.outputs b.outputs
     → handed a b x ≡ better_of o c a b
 unfolding better_of
 better_of_by o c a b d = ap (handed a b) d
@@ -34,11 +35,11 @@ pub handed_back : (o : Outcome) (c : Case) (a b : Part)
 unfolding better_of
 handed_back o c a b = go (compared_of o c a.outputs b.outputs)
   where
-    go : (x : Comparison) → HandsBack x a b (handed a b x)
-    go (First x) = one refl
-    go (Second x) = two refl
-    go Neither = empty refl
-    go (NotCompared n) = empty refl
+    go : (x : Result Comparison Refusal) → HandsBack x a b (handed a b x)
+    go (Ok (First x)) = one refl
+    go (Ok (Second x)) = two refl
+    go (Ok Neither) = empty refl
+    go (Err n) = empty refl
 
 module _ (c : Case) (a b : Part) (e : refusal_of c ≡ 0) (k : T (keeps c a.outputs)) where
   -- beside a list of T outputs that does not come before it, as the first
@@ -47,7 +48,7 @@ module _ (c : Case) (a b : Part) (e : refusal_of c ≡ 0) (k : T (keeps c a.outp
   unfolding better_of
   as_first h n = go (settled c a.outputs b.outputs e)
     where
-      go : {x : Comparison} → Settled c a.outputs b.outputs x → handed a b x ≡ a
+      go : {x : Result Comparison Refusal} → Settled c a.outputs b.outputs x → handed a b x ≡ a
       go (first _ _ _) = refl
       go (second j _ f) = absurd (n j (f k))
       go (neither o _ _ _) = absurd (o k)
@@ -64,7 +65,7 @@ module _ (c : Case) (a b : Part) (e : refusal_of c ≡ 0) (k : T (keeps c a.outp
       behind j (inl q) = d (sym q)
       behind j (inr t) = n j t
 
-      go : {x : Comparison} → Settled c b.outputs a.outputs x → handed b a x ≡ a
+      go : {x : Result Comparison Refusal} → Settled c b.outputs a.outputs x → handed b a x ≡ a
       go (first j _ f) = absurd (behind j (f k))
       go (second _ _ _) = refl
       go (neither _ o _ _) = absurd (o k)
@@ -87,15 +88,15 @@ unbeaten c a b e best h =
 
 -- ---- the lists swapped
 -- what is settled in one order beside what is settled in the other
-abbrev Turned : Part → Part → Comparison → Comparison → Type 0
+abbrev Turned : Part → Part → Result Comparison Refusal → Result Comparison Refusal → Type 0
 Turned a b x y = EitherWay a b x y (handed a b x) (handed b a y)
 
-refused_turned : (a b : Part) (n : ℕ) → Turned a b (NotCompared n) (NotCompared n)
+refused_turned : (a b : Part) (n : ℕ) → Turned a b (Refused n) (Refused n)
 refused_turned a b n = record { number = refl; profit = refl; outputs = refl; part = λ _ o. absurd (o refl) }
 
 module _ (c : Case) (a b : Part) where
   identical : b.outputs ≡ a.outputs
-      → Turned a b (First (record { 0 = profit_of c a.outputs })) (First (record { 0 = profit_of c b.outputs }))
+      → Turned a b (Ok (First (record { 0 = profit_of c a.outputs }))) (Ok (First (record { 0 = profit_of c b.outputs })))
   identical q = record { number = refl; profit = ap (profit_of c) q; outputs = q; part = λ n _. absurd (n q) }
 
   both_first : (b.outputs ≡ a.outputs) ⊎ T (leads (profit_of c) a.outputs b.outputs)
@@ -103,7 +104,7 @@ module _ (c : Case) (a b : Part) where
   both_first (inl q) s = q
   both_first (inr t) s = absurd (leads_behind (profit_of c) b.outputs a.outputs t s)
 
-  turned : {x y : Comparison} → Settled c a.outputs b.outputs x → Settled c b.outputs a.outputs y
+  turned : {x y : Result Comparison Refusal} → Settled c a.outputs b.outputs x → Settled c b.outputs a.outputs y
       → Turned a b x y
   turned (first k g f) (first j h i) = identical (both_first (f j) (i k))
   turned (first k g f) (second j h i) = record { number = refl; profit = refl; outputs = refl; part = λ _ _. refl }
@@ -128,8 +129,8 @@ pub swapped : (o : Outcome) (c : Case) (a b : Part)
     → EitherWay a b (compared_of o c a.outputs b.outputs) (compared_of o c b.outputs a.outputs)
     (better_of o c a b) (better_of o c b a)
 unfolding better_of compared_of check_of
-swapped (Refused n) c a b = refused_turned a b n
-swapped Accepted c a b = go (ℕ_discrete (refusal_of c) 0)
+swapped (Err n) c a b = refused_turned a b n.0
+swapped (Ok tt) c a b = go (ℕ_discrete (refusal_of c) 0)
   where
     go : Dec (refusal_of c ≡ 0)
         → Turned a b (compared_of Accepted c a.outputs b.outputs) (compared_of Accepted c b.outputs a.outputs)

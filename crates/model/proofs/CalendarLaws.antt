@@ -9,14 +9,11 @@ use lib.Dec.{eqb}
 use lib.IntN.{ℤ}
 use lib.ListN.{get_or}
 use Rattle.cases.specs.declared.Case.{Case}
-use Rattle.cases.specs.declared.Outcome.{Outcome}
-use Rattle.cases.specs.declared.Outcome.TheVariants.{Accepted, Refused}
 use Rattle.cases.specs.Limits.{most_hours}
 use Rattle.cases.specs.Symbols.{last}
 use Rattle.cases.specs.Layout.{with_arrays, zeroed}
 use Rattle.cases.specs.Refusals.{first_of, refusal_of}
 use Rattle.model.specs.Answers.{schedule_of}
-use Rattle.cases.specs.Reads.{outcome_number}
 use Rattle.model.specs.Calendar.{filled_orders, calendar_tests, day_tests, calendar_of}
 use Rattle.cases.specs.Published.{FirstRefused}
 use Rattle.model.specs.Promises.{FindsRefused}
@@ -26,6 +23,9 @@ use Rattle.cases.proofs.LayoutLaws.{padded_same}
 use Rattle.model.proofs.ScheduleLaws.{unplanned, schedule_of_refused}
 use Rattle.model.proofs.AnswersLaws.{refused_finds, schedule_zeroed}
 use Rattle.model.proofs.YearLaws.{clash, filled_given}
+use Rattle.quantities.specs.declared.Refusal.{Refusal}
+use Rattle.quantities.specs.Outcomes.{Accepted, Outcome, Refused}
+use Rattle.std.specs.Prelude.{Err}
 
 -- the orders of the day alone matter to the search
 schedule_orders : (c : Case) (work : List ℤ) (outputs os qs : List ℕ)
@@ -65,11 +65,11 @@ module _ (c : Case) (on off : List ℕ) (first hours : ℕ) (work : List ℤ) (o
     unfolding calendar_of
     searched o d = let f = next o ∙ d in rw f
 
-    pub calendar_of_unread : {o : Outcome} {n : ℕ} → o ≡ Refused n
-        → calendar_of o c on off first hours work outputs ≡ unplanned (outcome_number o) work outputs
+    pub calendar_of_unread : {o : Outcome} {r : Refusal} → o ≡ Err r
+        → calendar_of o c on off first hours work outputs ≡ unplanned r.0 work outputs
     unfolding first_of
-    calendar_of_unread {o} {n} r =
-        rw r (searched (Refused n) refl ∙ schedule_of_refused _ work outputs {o = Refused n} refl)
+    calendar_of_unread {o} {r} e =
+        rw e (searched (Err r) refl ∙ schedule_of_refused _ work outputs {o = Err r} refl)
 
     pub calendar_of_other : (last c ≡ hours → ⊥)
         → calendar_of Accepted c on off first hours work outputs ≡ unplanned 2 work outputs
@@ -103,7 +103,7 @@ module _ (c : Case) (on off : List ℕ) (first hours : ℕ) (work : List ℤ) (o
         → FindsRefused n work outputs (calendar_of (Refused n) c on off first hours work outputs)
     unread_calendar n =
         let e = clash on off first hours 0 f in
-        rw (calendar_of_unread c on off first hours work outputs e {o = Refused n} {n = n} refl)
+        rw (calendar_of_unread c on off first hours work outputs e {o = Refused n} refl)
         (refused_finds c work outputs n)
 
     pub other_day : (last c ≡ hours → ⊥)

@@ -11,11 +11,9 @@ use lib.IntN.{pos}
 use lib.ListN.{length}
 use Rattle.laws.proofs.Tests.{true_to_t}
 use Rattle.cases.specs.declared.Case.{Case}
-use Rattle.cases.specs.declared.Outcome.{Outcome}
-use Rattle.cases.specs.declared.Outcome.TheVariants.{Accepted, Refused}
 use Rattle.cases.specs.declared.Verdict.{Verdict}
 use Rattle.cases.specs.declared.Comparison.{Comparison}
-use Rattle.cases.specs.declared.Comparison.TheVariants.{First, Second, Neither, Refused as NotCompared}
+use Rattle.cases.specs.declared.Comparison.TheVariants.{First, Second, Neither}
 use Rattle.cases.specs.Symbols.{last}
 use Rattle.day.specs.Rules.{keeps}
 use Rattle.day.specs.Profit.{profit_of}
@@ -35,6 +33,9 @@ use Rattle.model.proofs.AnswersLaws.{check_zeroed}
 use Rattle.cases.proofs.ZeroedLaws.{counted}
 use Rattle.day.proofs.SameDayLaws.{profit_of_zeroed}
 use Rattle.model.proofs.VerdictLaws.{Judged, passing, breaking, unfit, verdict}
+use Rattle.quantities.specs.Outcomes.{Accepted, Outcome, Refused}
+use Rattle.std.specs.Prelude.{Result, Ok}
+use Rattle.quantities.specs.declared.Refusal.{Refusal}
 
 -- two things of which one fails do not both hold
 pub fails : {A B : Type 0} → (A → ⊥) ⊎ (B → ⊥) → A → B → ⊥
@@ -42,18 +43,18 @@ fails (inl n) a b = n a
 fails (inr n) a b = n b
 
 -- what is answered of two lists, for a case within the limits
-pub data Settled (c : Case) (l m : List ℕ) : Comparison → Type 0 where
+pub data Settled (c : Case) (l m : List ℕ) : Result Comparison Refusal → Type 0 where
   first : T (keeps c l) → length m ≡ last c → (T (keeps c m) → (m ≡ l) ⊎ T (leads (profit_of c) l m))
-      → Settled c l m (First (record { 0 = profit_of c l }))
+      → Settled c l m (Ok (First (record { 0 = profit_of c l })))
   second : T (keeps c m) → length l ≡ last c → (T (keeps c l) → T (leads (profit_of c) m l))
-      → Settled c l m (Second (record { 0 = profit_of c m }))
-  neither : (T (keeps c l) → ⊥) → (T (keeps c m) → ⊥) → length l ≡ last c → length m ≡ last c → Settled c l m Neither
-  short : (length l ≡ last c → ⊥) ⊎ (length m ≡ last c → ⊥) → Settled c l m (NotCompared 9)
+      → Settled c l m (Ok (Second (record { 0 = profit_of c m })))
+  neither : (T (keeps c l) → ⊥) → (T (keeps c m) → ⊥) → length l ≡ last c → length m ≡ last c → Settled c l m (Ok Neither)
+  short : (length l ≡ last c → ⊥) ⊎ (length m ≡ last c → ⊥) → Settled c l m (Refused 9)
 
 module _ (c : Case) (l m : List ℕ) where
   -- two lists that pass
   ranked : T (keeps c l) → T (keeps c m) → (t : Bool) → leads (profit_of c) m l ≡ t
-      → Settled c l m (cond t (Second (record { 0 = profit_of c m })) (First (record { 0 = profit_of c l })))
+      → Settled c l m (cond t (Ok (Second (record { 0 = profit_of c m }))) (Ok (First (record { 0 = profit_of c l }))))
   ranked k j true d = second j (kept_length c l k) (λ _. true_to_t _ d)
   ranked k j false d =
       let h = kept_length c m j in
@@ -64,7 +65,7 @@ module _ (c : Case) (l m : List ℕ) where
       go (before t) = absurd (subst T d t)
       go (after t) = inr t
 
-  settle : (v w : Verdict) → Judged c l v → Judged c m w → Settled c l m (preferred (leads (profit_of c) m l) v w)
+  settle : (v w : Result Verdict Refusal) → Judged c l v → Judged c m w → Settled c l m (preferred (leads (profit_of c) m l) v w)
   settle _ _ (unfit h) j = short (inl h)
   settle _ _ (passing k) (unfit h) = short (inr h)
   settle _ _ (passing k) (breaking n h) = first k h (λ j. absurd (n j))
@@ -78,7 +79,7 @@ module _ (c : Case) (l m : List ℕ) where
   settled e = settle (check_of Accepted c l) (check_of Accepted c m) (verdict c e l) (verdict c e m)
 
 -- the comparison by its verdicts
-pub compared_of_by : (o : Outcome) (c : Case) (l m : List ℕ) {v w : Verdict} → v ≡ check_of o c l → w ≡ check_of o c m
+pub compared_of_by : (o : Outcome) (c : Case) (l m : List ℕ) {v w : Result Verdict Refusal} → v ≡ check_of o c l → w ≡ check_of o c m
     → preferred (leads (profit_of c) m l) v w ≡ compared_of o c l m
 unfolding compared_of
 compared_of_by o c l m d e = rw (d, e)
@@ -91,7 +92,7 @@ unread_comparison c l m n = refl
 
 -- a case outside the limits
 pub compared_of_outside : (c : Case) (l m : List ℕ) → (refusal_of c ≡ 0 → ⊥)
-    → compared_of Accepted c l m ≡ NotCompared (refusal_of c)
+    → compared_of Accepted c l m ≡ Refused (refusal_of c)
 unfolding compared_of
 compared_of_outside c l m h = rw (check_of_outside c l h)
 
@@ -114,14 +115,14 @@ module _ (c : Case) (l m : List ℕ) (e : refusal_of c ≡ 0) where
       beats k (inl q) = inl q
       beats k (inr t) = inr ((leading (profit_of c) l m (kept_length c l k ∙ sym h)).0 t)
 
-      to : {x : Comparison} → Settled c l m x → (T (keeps c l) × (T (keeps c m) → (m ≡ l) ⊎ Beaten (profit_of c) l m))
+      to : {x : Result Comparison Refusal} → Settled c l m x → (T (keeps c l) × (T (keeps c m) → (m ≡ l) ⊎ Beaten (profit_of c) l m))
           → comparison_numbers x ≡ (0, 1, profit_of c l)
       to (first k g f) w = refl
       to (second j g f) (k, w) = absurd (leads_behind (profit_of c) l m (f k) (led_by k (w j)))
       to (neither n o g i) (k, w) = absurd (n k)
       to (short n) (k, w) = absurd (fails n (kept_length c l k) h)
 
-      from : {x : Comparison} → Settled c l m x → comparison_numbers x ≡ (0, 1, profit_of c l)
+      from : {x : Result Comparison Refusal} → Settled c l m x → comparison_numbers x ≡ (0, 1, profit_of c l)
           → T (keeps c l) × (T (keeps c m) → (m ≡ l) ⊎ Beaten (profit_of c) l m)
       from (first k g f) w = (k, λ j. beats k (f j))
       from (second j g f) w = absurd (let q = ap (λ t. t.1) w in omega arith)
@@ -136,14 +137,14 @@ module _ (c : Case) (l m : List ℕ) (e : refusal_of c ≡ 0) where
       ahead : T (keeps c m) → T (leads (profit_of c) m l) ↔ Beaten (profit_of c) m l
       ahead j = leading (profit_of c) m l (kept_length c m j ∙ sym h)
 
-      to : {x : Comparison} → Settled c l m x → (T (keeps c m) × (T (keeps c l) → Beaten (profit_of c) m l))
+      to : {x : Result Comparison Refusal} → Settled c l m x → (T (keeps c m) × (T (keeps c l) → Beaten (profit_of c) m l))
           → comparison_numbers x ≡ (0, 2, profit_of c m)
       to (first k g f) (j, w) = absurd (leads_behind (profit_of c) l m ((ahead j).1 (w k)) (f j))
       to (second j g f) w = refl
       to (neither n o g i) (j, w) = absurd (o j)
       to (short n) (j, w) = absurd (fails n h (kept_length c m j))
 
-      from : {x : Comparison} → Settled c l m x → comparison_numbers x ≡ (0, 2, profit_of c m)
+      from : {x : Result Comparison Refusal} → Settled c l m x → comparison_numbers x ≡ (0, 2, profit_of c m)
           → T (keeps c m) × (T (keeps c l) → Beaten (profit_of c) m l)
       from (first k g f) w = absurd (let q = ap (λ t. t.1) w in omega arith)
       from (second j g f) w = (j, λ k. (ahead j).0 (f k))
@@ -154,14 +155,14 @@ module _ (c : Case) (l m : List ℕ) (e : refusal_of c ≡ 0) where
       → ((T (keeps c l) → ⊥) × (T (keeps c m) → ⊥)) ↔ (comparison_numbers (compared_of Accepted c l m) ≡ (0, 0, pos 0))
   none_offered h i = (to (settled c l m e), from (settled c l m e))
     where
-      to : {x : Comparison} → Settled c l m x → ((T (keeps c l) → ⊥) × (T (keeps c m) → ⊥))
+      to : {x : Result Comparison Refusal} → Settled c l m x → ((T (keeps c l) → ⊥) × (T (keeps c m) → ⊥))
           → comparison_numbers x ≡ (0, 0, pos 0)
       to (first k g f) (n, o) = absurd (n k)
       to (second j g f) (n, o) = absurd (o j)
       to (neither n o g f) w = refl
       to (short n) w = absurd (fails n h i)
 
-      from : {x : Comparison} → Settled c l m x → comparison_numbers x ≡ (0, 0, pos 0)
+      from : {x : Result Comparison Refusal} → Settled c l m x → comparison_numbers x ≡ (0, 0, pos 0)
           → (T (keeps c l) → ⊥) × (T (keeps c m) → ⊥)
       from (first k g f) w = absurd (let q = ap (λ t. t.1) w in omega arith)
       from (second j g f) w = absurd (let q = ap (λ t. t.1) w in omega arith)
@@ -172,14 +173,14 @@ module _ (c : Case) (l m : List ℕ) (e : refusal_of c ≡ 0) where
       ↔ (comparison_numbers (compared_of Accepted c l m) ≡ (9, 0, pos 0))
   uncompared = (to (settled c l m e), from (settled c l m e))
     where
-      to : {x : Comparison} → Settled c l m x → ((length l ≡ last c → ⊥) ⊎ (length m ≡ last c → ⊥))
+      to : {x : Result Comparison Refusal} → Settled c l m x → ((length l ≡ last c → ⊥) ⊎ (length m ≡ last c → ⊥))
           → comparison_numbers x ≡ (9, 0, pos 0)
       to (first k g f) n = absurd (fails n (kept_length c l k) g)
       to (second j g f) n = absurd (fails n g (kept_length c m j))
       to (neither _ _ g f) n = absurd (fails n g f)
       to (short n) w = refl
 
-      from : {x : Comparison} → Settled c l m x → comparison_numbers x ≡ (9, 0, pos 0)
+      from : {x : Result Comparison Refusal} → Settled c l m x → comparison_numbers x ≡ (9, 0, pos 0)
           → (length l ≡ last c → ⊥) ⊎ (length m ≡ last c → ⊥)
       from (first k g f) w = absurd (let q = ap (λ t. t.0) w in omega arith)
       from (second j g f) w = absurd (let q = ap (λ t. t.0) w in omega arith)

@@ -16,8 +16,6 @@ use Rattle.curve.proofs.TableLaws.{table_at}
 use Rattle.laws.proofs.Tests.{t_to_true, not_to_false, left_to_or, right_to_or}
 use Rattle.cases.specs.declared.Case.{Case}
 use Rattle.cases.specs.declared.Breach.{Breach}
-use Rattle.cases.specs.declared.Outcome.{Outcome}
-use Rattle.cases.specs.declared.Outcome.TheVariants.{Accepted, Refused}
 use Rattle.cases.specs.declared.Verdict.{Verdict}
 use Rattle.cases.specs.declared.Verdict.TheVariants.{Passes, Breaks as Breaching}
 use Rattle.cases.specs.Symbols.{last}
@@ -36,6 +34,9 @@ use Rattle.cases.proofs.RefusalsLaws.{first_of_tests, tests_within}
 use Rattle.model.proofs.BestLaws.{best_by_some, best_by_none, none_of_best_by}
 use Rattle.model.proofs.AnswersLaws.{keeps_of_passing, refused_finds, planned_list, planned_none}
 use Rattle.model.proofs.AnswersLaws.{none_of_planned}
+use Rattle.quantities.specs.Outcomes.{Accepted, Outcome, Refused}
+use Rattle.std.specs.Prelude.{Result, Ok}
+use Rattle.quantities.specs.declared.Refusal.{Refusal}
 
 -- what a list earns that keeps the rules: no hour of it has an energy past the table
 pub curve_earns : (k : Kind) (c : Case) (l : List ℕ) → refusal_of c ≡ 0 → T (keeps c l)
@@ -47,7 +48,7 @@ curve_earns k c l e t =
     ∙ profit_by_earned (λ n. pos (entry_of k n)) c l
 
 -- a refusal, by the papers' words
-pub check_stays : (k : Kind) (n : ℕ) (table : List ℤ) {f : Filling Verdict} → f ≡ not_checked k n table
+pub check_stays : (k : Kind) (n : ℕ) (table : List ℤ) {f : Filling (Result Verdict Refusal)} → f ≡ not_checked k n table
     → Stays table (ChecksRefused n) f
 check_stays k n table e = rw e (record { says = refl; untouched = refl })
 
@@ -219,8 +220,8 @@ module _ (k : Kind) where
 
     module _ (c : Case) (l : List ℕ) (table : List ℤ) (e : refusal_of c ≡ 0) (room : costs_length ≤ length table) where
       -- the list passes, with what it earns
-      abbrev passing : Filling Verdict
-      passing = record { answer = Passes (record { 0 = earned_by k c l }); table = tabled k table }
+      abbrev passing : Filling (Result Verdict Refusal)
+      passing = record { answer = Ok (Passes (record { 0 = earned_by k c l })); table = tabled k table }
 
       passes_of_keeps : T (keeps c l) → check_by_curve_of k Accepted c l table ≡ passing
       unfolding judged
@@ -234,12 +235,12 @@ module _ (k : Kind) where
           (λ h. ap (λ f. f.answer) (check_by_curve_of_judged c l table e h room))
 
       keeps_of_passes : check_by_curve_of k Accepted c l table ≡ passing → T (keeps c l)
-      keeps_of_passes w = keeps_of_curve_passes (ap (λ (f : Filling Verdict). verdict_numbers f.answer) w)
+      keeps_of_passes w = keeps_of_curve_passes (ap (λ (f : Filling (Result Verdict Refusal)). verdict_numbers f.answer) w)
 
       pub curve_passes : T (keeps c l) ↔ (check_by_curve_of k Accepted c l table ≡ passing)
       curve_passes = (passes_of_keeps, keeps_of_passes)
 
       pub curve_breaks : length l ≡ last c → (b : Breach) → breach c l ≡ some b
-          → check_by_curve_of k Accepted c l table ≡ record { answer = Breaching b; table = tabled k table }
+          → check_by_curve_of k Accepted c l table ≡ record { answer = Ok (Breaching b); table = tabled k table }
       unfolding judged
       curve_breaks h b d = check_by_curve_of_judged c l table e h room ∙ rw d refl

@@ -16,11 +16,6 @@ use lib.Seq.{sets, take_at, drop_at}
 use lib.Signed.{lt_z}
 use Rattle.cases.specs.declared.Case.{Case}
 use Rattle.quantities.specs.declared.HalfMills.{HalfMills}
-use Rattle.cases.specs.declared.Outcome.{Outcome}
-use Rattle.cases.specs.declared.Outcome.TheVariants.{Accepted, Refused}
-use Rattle.cases.specs.declared.Plan.{Plan}
-use Rattle.cases.specs.declared.Plan.TheVariants.{Found, Refused as NotPlanned}
-use Rattle.cases.specs.declared.Written.TheVariants.{Bytes, Refused as NotWritten}
 use Rattle.cases.specs.Limits.{most_hours, most_input, short_work}
 use Rattle.quantities.specs.Widths.{words}
 use Rattle.cases.specs.Symbols.{last, p0}
@@ -42,6 +37,9 @@ use Rattle.cases.proofs.SetsLaws.{sets_front}
 use Rattle.model.proofs.BestLaws.{best_of_best_day}
 use Rattle.cases.proofs.AcceptedLaws.{read_limits}
 use Rattle.model.proofs.ScheduleLaws.{schedule_of_work, schedule_of_planned}
+use Rattle.quantities.specs.Outcomes.{Accepted, Outcome, Refused}
+use Rattle.std.specs.Prelude.{Result, Ok, Err}
+use Rattle.quantities.specs.declared.Refusal.{Refusal}
 
 -- "refused " and "profit "
 abbrev pub refused_word : List ℕ
@@ -228,21 +226,21 @@ module _ (input lent : List ℕ) where
       rw (lt-ltb (length lent) (length text) h) (record { numbers = refl; untouched = refl })
 
   pub printing_of_short : length lent < length (printed_of input)
-      → record { answer = NotWritten 10; lent = lent } ≡ printing_of input lent
+      → record { answer = Refused 10; lent = lent } ≡ printing_of input lent
   unfolding printing_of
   printing_of_short h = rw (lt-ltb (length lent) (length (printed_of input)) h)
 
   pub printing_of_done : length (printed_of input) ≤ length lent
-      → record { answer = Bytes (length (printed_of input)); lent = sets lent 0 (printed_of input) }
+      → record { answer = Ok (length (printed_of input)); lent = sets lent 0 (printed_of input) }
       ≡ printing_of input lent
   unfolding printing_of
   printing_of_done h =
       rw (le-ltb (length lent) (length (printed_of input)) h, sets_front (printed_of input) lent h)
 
 -- the text of a plan for a case, with the outputs as the search leaves them
-unfoldable pub plan_text : Case → List ℕ → Plan → List ℕ
-plan_text c outputs (Found m) = profit_line m.0 ++ hour_lines c outputs (last c)
-plan_text c outputs (NotPlanned n) = refused_line n
+unfoldable pub plan_text : Case → List ℕ → Result HalfMills Refusal → List ℕ
+plan_text c outputs (Ok m) = profit_line m.0 ++ hour_lines c outputs (last c)
+plan_text c outputs (Err n) = refused_line n.0
 
 -- it is the text of the file, where as many numbers are lent as short minimum times ask for
 module _ (file : List ℕ) (work : List ℤ) (outputs : List ℕ) (long : length work ≡ short_work)
@@ -266,8 +264,8 @@ module _ (file : List ℕ) (work : List ℤ) (outputs : List ℕ) (long : length
   pub read_text_plan : (o : Outcome) → (read_of file).outcome ≡ o
       → read_text o c ≡ plan_text c (schedule_of o c work outputs).outputs (schedule_of o c work outputs).answer
   unfolding read_text plan_text schedule_of
-  read_text_plan (Refused n) e = refl
-  read_text_plan Accepted e =
+  read_text_plan (Err n) e = refl
+  read_text_plan (Ok tt) e =
       let z = read_limits file e in
       let few = (limits_of_refusal_of c z).hours_le in
       go z few (dec_lt short_work (work_length c))
@@ -286,7 +284,7 @@ module _ (file : List ℕ) (work : List ℤ) (outputs : List ℕ) (long : length
 
   -- a list is found only for a case within the limits
   pub found_limits : (o : Outcome) → (read_of file).outcome ≡ o → {m : HalfMills}
-      → (schedule_of o c work outputs).answer ≡ Found m → Limits c
+      → (schedule_of o c work outputs).answer ≡ Ok m → Limits c
   unfolding schedule_of
-  found_limits (Refused n) e f = let u : ◌≡◌ {A = ℕ} 0 1 = cc in absurd (omega arith)
-  found_limits Accepted e f = limits_of_refusal_of c (read_limits file e)
+  found_limits (Err n) e f = let u : ◌≡◌ {A = ℕ} 0 1 = cc in absurd (omega arith)
+  found_limits (Ok tt) e f = limits_of_refusal_of c (read_limits file e)

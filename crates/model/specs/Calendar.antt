@@ -2,15 +2,14 @@
 -- are filled from them, and what the search of that day answers and leaves. Hours of the year count from 0, those of
 -- the day from 1. Definitions only. Assumes nothing.
 use Rattle.std.specs.Prelude.{Bool, true, false, ◌&&◌, ◌||◌, not, cond, List, [], ◌∷◌, ℕ, ◌+◌, leb, ltb, eqb, ℤ}
+use Rattle.std.specs.Prelude.{Err, Ok}
 use Rattle.cases.specs.declared.Case.{Case}
-use Rattle.cases.specs.declared.Outcome.{Outcome}
-use Rattle.cases.specs.declared.Outcome.TheVariants.{Accepted, Refused}
-use Rattle.cases.specs.declared.Plan.TheVariants.{Refused as NotPlanned}
 use Rattle.cases.specs.Limits.{most_hours, year_hours, short_day, long_day}
 use Rattle.cases.specs.Symbols.{every, before, last}
 use Rattle.cases.specs.Layout.{padded, with_arrays}
 use Rattle.cases.specs.Refusals.{within, first_of, tests}
 use Rattle.model.specs.Answers.{Scheduling, schedule_of}
+use Rattle.quantities.specs.Outcomes.{Outcome, Refused}
 
 -- A list has two numbers for each window, its first hour and how many hours it has. Windows are whole, none is empty or
 -- ends past the year, and each begins at hour `from` or later, which is where the one before it ends
@@ -59,8 +58,8 @@ module _ (on off : List ℕ) (first hours : ℕ) where
 -- the tests of a record by calendar: T is the day's number of hours, or it is 2, and then its own tests, its own orders
 -- among them. A refused reading stops the call
 abbrev pub day_tests : ℕ → Outcome → Case → List (ℕ × Bool)
-day_tests hours Accepted c = (2, not (eqb (last c) hours)) ∷ tests c []
-day_tests hours (Refused n) c = []
+day_tests hours (Ok tt) c = (2, not (eqb (last c) hours)) ∷ tests c []
+day_tests hours (Err n) c = []
 
 -- `schedule_by_calendar`: 14 and 15 before any case; then the search of the record with the orders of the day
 unfoldable pub calendar_of : Outcome → Case → List ℕ → List ℕ → ℕ → ℕ → List ℤ → List ℕ → Scheduling
@@ -68,4 +67,4 @@ calendar_of o c on off first hours work outputs =
     let n = first_of (calendar_tests on off first hours (day_tests hours o c)) in
     let day = with_arrays c c.rise c.fall c.prices (filled_orders on off first hours) in
     let plan = schedule_of o day work outputs in
-    cond (eqb n 0) plan (record { answer = NotPlanned n; work = work; outputs = outputs })
+    cond (eqb n 0) plan (record { answer = Refused n; work = work; outputs = outputs })

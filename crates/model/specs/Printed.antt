@@ -1,13 +1,11 @@
 -- What the program prints for the bytes of an input, in ASCII (document 01, "A program reads a case from standard
 -- input"), and what `print` answers and leaves in lent memory. Definitions only. Assumes nothing.
-use Rattle.std.specs.Prelude.{cond, List, [], ◌∷◌, ◌++◌, ℕ, zero, suc, ◌+◌, ◌/◌, ◌%◌, ltb, ℤ, pos, negsuc, nat_abs, length, drop}
+use Rattle.std.specs.Prelude.{cond, List, [], ◌∷◌, ◌++◌, ℕ, zero, suc, ◌+◌, ◌/◌, ◌%◌, ltb, ℤ, pos, negsuc, nat_abs}
+use Rattle.std.specs.Prelude.{length, drop, Ok, Err}
 use Rattle.std.proofs.Math.Option.{Option, none, some}
 use Prim.Native.Char.{code}
 use Prim.Native.String.{String, len, char_at}
 use Rattle.cases.specs.declared.Case.{Case}
-use Rattle.cases.specs.declared.Outcome.{Outcome}
-use Rattle.cases.specs.declared.Outcome.TheVariants.{Accepted, Refused}
-use Rattle.cases.specs.declared.Written.TheVariants.{Bytes, Refused as NotWritten}
 use Rattle.cases.specs.Limits.{most_input, most_hours, short_work}
 use Rattle.cases.specs.Symbols.{last}
 use Rattle.day.specs.Marks.{p}
@@ -16,6 +14,7 @@ use Rattle.model.specs.Best.{best_day}
 use Rattle.cases.specs.Layout.{listed}
 use Rattle.cases.specs.Refusals.{refusal10}
 use Rattle.cases.specs.Reads.{Writing, read_of}
+use Rattle.quantities.specs.Outcomes.{Outcome, Refused}
 
 -- the bytes of a text of ASCII characters
 abbrev pub ascii : String → List ℕ
@@ -70,8 +69,8 @@ day_text c (some l) = profit_line (profit_of c l) ++ hour_lines c l (last c)
 -- the best day of a case that was read, or its refusal; the numbers that are lent are those of short minimum times
 -- (request F-6)
 unfoldable pub read_text : Outcome → Case → List ℕ
-read_text Accepted c = let day = day_text c (best_day c) in cond (refusal10 c short_work most_hours) (refused_line 10) day
-read_text (Refused n) c = refused_line n
+read_text (Ok tt) c = let day = day_text c (best_day c) in cond (refusal10 c short_work most_hours) (refused_line 10) day
+read_text (Err n) c = refused_line n.0
 
 -- what the program prints for an input: 1 where it is longer than a case may be, whatever its bytes
 unfoldable pub printed_of : List ℕ → List ℕ
@@ -83,5 +82,5 @@ printed_of input =
 unfoldable pub printing_of : List ℕ → List ℕ → Writing
 printing_of input lent =
     let text = printed_of input in
-    let done : Writing = record { answer = Bytes (length text); lent = text ++ drop (length text) lent } in
-    cond (ltb (length lent) (length text)) (record { answer = NotWritten 10; lent = lent }) done
+    let done : Writing = record { answer = Ok (length text); lent = text ++ drop (length text) lent } in
+    cond (ltb (length lent) (length text)) (record { answer = Refused 10; lent = lent }) done

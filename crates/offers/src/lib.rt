@@ -9,23 +9,19 @@ ghost use Rattle.model.specs.Best.{lower, leads};
 ghost use Rattle.model.specs.Compared.{compared_of, part_of, better_of};
 
 use cases::{Comparison, Reading, Verdict};
-use money::below;
-use quantities::{HalfMills, Output};
+use quantities::{HalfMills, Refusal};
 use rules::check;
 
-// Whether the first of two lists of one length is lower at the first hour where they differ.
+// Whether the first of two lists of one length is lower at the first hour where they differ. The order of slices is
+// this too, but divides, which no code of the library does (tests/division).
 fn is_lower(first: &[u16], second: &[u16]) -> bool
     requires { length first.now ≡ length second.now }
     ensures { result ≡ lower first.now second.now }
 {
-    let mut k = 0;
-    while k < first.len() {
-        let own = Output(first[k]);
-        let other = Output(second[k]);
-        if own.0 != other.0 {
-            return own.0 < other.0;
+    for (&own, &other) in first.iter().zip(second) {
+        if own != other {
+            return own < other;
         }
-        k += 1;
     }
     false
 }
@@ -36,38 +32,27 @@ fn comes_before(first: &[u16], own: HalfMills, second: &[u16], other: HalfMills)
     ensures { (earns : List ℕ → ℤ) → own.0 ≡ earns first.now
         → other.0 ≡ earns second.now → result ≡ leads earns first.now second.now }
 {
-    if below(other, own) {
-        return true;
-    }
-    if below(own, other) {
-        return false;
-    }
-    is_lower(first, second)
+    own > other || own == other && is_lower(first, second)
 }
 
 // The list to offer on the case that was read, with what it earns.
-pub fn compare(reading: Reading, first: &[u16], second: &[u16]) -> Comparison
+pub fn compare(reading: Reading, first: &[u16], second: &[u16]) -> Result<Comparison, Refusal>
     ensures { result
         ≡ compared_of reading.outcome reading.case first.now second.now }
 {
-    match check(reading, first) {
-        Verdict::Refused(number) => Comparison::Refused(number),
-        Verdict::Passes(own) => match check(reading, second) {
-            Verdict::Refused(number) => Comparison::Refused(number),
-            Verdict::Breaks(_) => Comparison::First(own),
-            Verdict::Passes(other) => {
-                if comes_before(second, other, first, own) {
-                    Comparison::Second(other)
-                } else {
-                    Comparison::First(own)
-                }
+    let one = check(reading, first)?;
+    let two = check(reading, second)?;
+    match (one, two) {
+        (Verdict::Passes(own), Verdict::Passes(other)) => {
+            if comes_before(second, other, first, own) {
+                Ok(Comparison::Second(other))
+            } else {
+                Ok(Comparison::First(own))
             }
-        },
-        Verdict::Breaks(_) => match check(reading, second) {
-            Verdict::Refused(number) => Comparison::Refused(number),
-            Verdict::Breaks(_) => Comparison::Neither,
-            Verdict::Passes(other) => Comparison::Second(other),
-        },
+        }
+        (Verdict::Passes(own), Verdict::Breaks(_)) => Ok(Comparison::First(own)),
+        (Verdict::Breaks(_), Verdict::Passes(other)) => Ok(Comparison::Second(other)),
+        (Verdict::Breaks(_), Verdict::Breaks(_)) => Ok(Comparison::Neither),
     }
 }
 
@@ -78,9 +63,9 @@ pub fn better<'a>(reading: Reading, first: &'a [u16], second: &'a [u16]) -> &'a 
         ≡ better_of reading.outcome reading.case (part_of first.entry) (part_of second.entry) }
 {
     match compare(reading, first, second) {
-        Comparison::First(_) => first,
-        Comparison::Second(_) => second,
-        Comparison::Neither => &first[..0],
-        Comparison::Refused(_) => &first[..0],
+        Ok(Comparison::First(_)) => first,
+        Ok(Comparison::Second(_)) => second,
+        Ok(Comparison::Neither) => &first[..0],
+        Err(_) => &first[..0],
     }
 }

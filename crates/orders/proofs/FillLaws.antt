@@ -37,7 +37,8 @@ module _ (on off : List ℕ) (first hours : ℕ) (room : hours ≤ most_hours) w
         go true false = refl
         go false b = refl
 
-    pub joined : padded 0 (λ i. one_of (get_or ons i 0) (get_or offs i 0)) hours most_hours ≡ filled_orders on off first hours
+    pub joined : padded 0 (λ i. one_of (get_or ons i 0) (get_or offs i 0)) hours most_hours
+        ≡ filled_orders on off first hours
     unfolding order_in
     joined =
         filled_orders_hours on off first hours _

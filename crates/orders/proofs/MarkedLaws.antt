@@ -1,53 +1,57 @@
 -- The marks of the hours that windows hold: between two places of a day those of one window, and hour by hour those
 -- of a list. Assumes nothing.
-use mathlib.Core.Path.{◌≡◌, refl, sym, subst, ◌∙◌}
-use mathlib.Core.Bool.{Bool, true, false, ◌&&◌, ◌||◌, cond, false≢true}
-use mathlib.Core.List.{List, [], ◌∷◌}
-use Prim.Native.Nat.{ℕ, ◌+◌, ◌-◌, ◌≤◌, ◌<◌, min, max}
-use native.Mathlib.Nat.{zero-add}
+use mathlib.Core.Path.{◌≡◌, refl, sym, ◌∙◌}
+use mathlib.Core.Bool.{Bool, true, false, ◌&&◌, ◌||◌, cond}
+use mathlib.Core.List.{List, [], ◌∷◌, ◌++◌}
+use Prim.Native.Nat.{ℕ, ◌+◌, ◌-◌, ◌≤◌, ◌<◌, min}
 use native.Mathlib.Omega.{arith}
-use borrow.Author.Tests.{ltb-true, lt-ltb}
+use borrow.Author.Tests.{lt-ltb}
 use lib.Dec.{ltb}
-use lib.ListN.{length, get_or}
+use lib.ListN.{length, get_or, take, drop, replicate}
 use lib.Seq.{ext_get_or}
-use Rattle.laws.specs.Placed.{Part}
-use Rattle.laws.proofs.Tests.{both, t_to_true, true_to_t}
+use Rattle.std.proofs.lemmas.Bool.Decides.{nat_tests}
+use Rattle.std.proofs.lemmas.Grind.{common_steps}
+use Rattle.std.proofs.lemmas.List.{get_or-append_right, get_or_append_left, get_or-take, get_or-drop, get_or-replicate}
+use Rattle.std.proofs.lemmas.List.{length-append, length-drop, length-replicate, length-take-le}
 use Rattle.cases.specs.Limits.{most_hours}
 use Rattle.cases.specs.Layout.{listed}
 use Rattle.model.specs.Calendar.{spans, covers}
 use Rattle.cases.proofs.LayoutLaws.{length_listed, get_d_listed}
-use Rattle.model.proofs.WindowsLaws.{spans_hour, hour_spans}
 use Rattle.orders.specs.Marked.{marked, overlaid}
 
-module _ (day hours mark first n : ℕ) where
-  -- the places of the hours that a window holds
-  module _ (xs ys : List ℕ) (long : length xs ≡ most_hours) (a b : ℕ) (begin : a ≡ first - day)
-      (end : b ≡ min (first + n - day) hours) (p : Part 0 xs ys 0 a (max a b) (λ j. mark)) where
-    inside : (i : ℕ) → i < hours → first ≤ day + i → day + i < first + n → get_or ys i 0 ≡ mark
-    inside i h x y = subst (λ j. get_or ys j 0 ≡ mark) (zero-add i) (p.done i (omega arith) (omega arith))
+-- a list with one number at m places from a on, in place of its own
+module _ (xs : List ℕ) (a m mark : ℕ) (room : a + m ≤ length xs) where
+  long_between : length (take a xs ++ (replicate m mark ++ drop m (drop a xs))) ≡ length xs
+  long_between = grind (arith, common_steps, length-append, length-drop, length-replicate, length-take-le)
 
-    outside : (i : ℕ) → (i < hours → first ≤ day + i → day + i < first + n → ⊥) → get_or ys i 0 ≡ get_or xs i 0
-    outside i off = p.other i (λ j l m e. off (omega arith) (omega arith) (omega arith))
+  inside : (i : ℕ) → a ≤ i → i < a + m → get_or (take a xs ++ (replicate m mark ++ drop m (drop a xs))) i 0 ≡ mark
+  inside i p q =
+      grind (arith, get_or-append_right, get_or_append_left, get_or-replicate, length-replicate, length-take-le)
 
-    at : (i : ℕ) (t : Bool) → ltb i hours && spans first n (day + i) ≡ t
-        → get_or ys i 0 ≡ cond t mark (get_or xs i 0)
-    at i true e =
-        let (a, b) = both (ltb i hours) (spans first n (day + i)) e in
-        let (x, y) = spans_hour first n (day + i) (true_to_t (spans first n (day + i)) b) in
-        inside i (ltb-true i hours a) x y
-    at i false e =
-        outside i (λ h x y.
-        let a = lt-ltb i hours h in
-        let b = t_to_true (spans first n (day + i)) (hour_spans first n (day + i) x y) in
-        false≢true (cc))
+  below : (i : ℕ) → i < a → get_or (take a xs ++ (replicate m mark ++ drop m (drop a xs))) i 0 ≡ get_or xs i 0
+  below i p = grind (arith, get_or_append_left, get_or-take, length-take-le)
 
-    pub marked_of_part : ys ≡ marked day hours mark first n xs
-    unfolding marked
-    marked_of_part =
-        let f : ℕ → ℕ = λ i. cond (ltb i hours && spans first n (day + i)) mark (get_or xs i 0) in
-        ext_get_or 0 ys (listed f most_hours) (p.long ∙ long ∙ sym (length_listed f most_hours))
-        (λ i h. at i (ltb i hours && spans first n (day + i)) refl
-        ∙ sym (get_d_listed f 0 most_hours i (omega (arith, p.long))))
+  above : (i : ℕ) → a + m ≤ i → get_or (take a xs ++ (replicate m mark ++ drop m (drop a xs))) i 0 ≡ get_or xs i 0
+  above i p = grind (arith, get_or-append_right, get_or-drop, length-replicate, length-take-le)
+
+-- the places of the hours of a day that a window holds
+module _ (day hours mark first n : ℕ) (room : hours ≤ most_hours) (xs : List ℕ) (long : length xs ≡ most_hours)
+    (a m : ℕ) (begin : a ≡ min (first - day) hours) (end : a + m ≡ min (first + n - day) hours) where
+  at : (i : ℕ) → get_or (take a xs ++ (replicate m mark ++ drop m (drop a xs))) i 0
+      ≡ cond (ltb i hours && spans first n (day + i)) mark (get_or xs i 0)
+  unfolding spans
+  at i =
+      let fit : a + m ≤ length xs = omega arith in
+      grind (arith, nat_tests, inside, below, above)
+
+  pub marked_between : take a xs ++ (replicate m mark ++ drop m (drop a xs)) ≡ marked day hours mark first n xs
+  unfolding marked
+  marked_between =
+      let f : ℕ → ℕ = λ i. cond (ltb i hours && spans first n (day + i)) mark (get_or xs i 0) in
+      let same = long_between xs a m mark (omega arith) ∙ long in
+      ext_get_or 0 (take a xs ++ (replicate m mark ++ drop m (drop a xs))) (listed f most_hours)
+      (same ∙ sym (length_listed f most_hours))
+      (λ i h. at i ∙ sym (get_d_listed f 0 most_hours i (omega (arith, same))))
 
 -- the mark of an hour of the day, with the windows of a list
 module _ (day hours mark : ℕ) (room : hours ≤ most_hours) (i : ℕ) (h : i < hours) where
@@ -55,7 +59,8 @@ module _ (day hours mark : ℕ) (room : hours ≤ most_hours) (i : ℕ) (h : i <
       → get_or (marked day hours mark first n marks) i 0 ≡ cond (spans first n (day + i)) mark (get_or marks i 0)
   unfolding marked
   get_d_marked first n marks =
-      get_d_listed (λ i. cond (ltb i hours && spans first n (day + i)) mark (get_or marks i 0)) 0 most_hours i (omega arith)
+      get_d_listed (λ i. cond (ltb i hours && spans first n (day + i)) mark (get_or marks i 0)) 0 most_hours i
+      (omega arith)
       ∙ rw (lt-ltb i hours h) refl
 
   pub get_d_overlaid : (l marks : List ℕ)

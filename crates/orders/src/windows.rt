@@ -1,79 +1,77 @@
 // A list of windows of the year, two numbers for each: its first hour, and how many hours it has.
-ghost use Rattle.std.specs.Prelude.{true, ◌&&◌, ◌≡◌, ◌+◌, ◌≤◌, max, leb, length};
-ghost use Rattle.laws.specs.Placed.{Part};
+ghost use Rattle.std.specs.Prelude.{◌&&◌, ◌≡◌, ◌+◌, ◌≤◌, leb, length, replicate, is_some, IfSome};
 ghost use Rattle.cases.specs.Limits.{most_hours, year_hours};
 ghost use Rattle.model.specs.Calendar.{windows_from};
 ghost use Rattle.orders.specs.Marked.{marked, overlaid};
 
+use crate::days::Day;
 use cases::{HOURS, YEAR_HOURS};
 use quantities::Hour;
 
-// Whether n hours from an hour on end within the year.
-pub(crate) fn in_year(first: Hour, n: Hour) -> bool
-    ensures { result ≡ leb (first.0 + n.0) year_hours }
-{
-    first.0 as u32 + n.0 as u32 <= YEAR_HOURS as u32
+// Hours of the year, from a first one on.
+#[derive(Clone, Copy)]
+pub(crate) struct Window {
+    pub(crate) first: Hour,
+    pub(crate) hours: Hour,
 }
 
-// Whether a window begins at hour `from` or later, is not empty and ends within the year.
-fn stands(from: Hour, first: Hour, n: Hour) -> bool
-    ensures { result
-        ≡ (leb from.0 first.0 && (leb 1 n.0 && leb (first.0 + n.0) year_hours)) }
-{
-    (from.0 <= first.0) & ((1 <= n.0) & in_year(first, n))
-}
+impl Window {
+    // Whether it ends within the year.
+    pub(crate) fn in_year(self) -> bool
+        ensures { result ≡ leb (self.first.0 + self.hours.0) year_hours }
+    {
+        u32::from(self.first.0) + u32::from(self.hours.0) <= u32::from(YEAR_HOURS)
+    }
 
-// Marks the places a to b − 1.
-fn put(mark: u8, a: usize, b: usize, marks: &mut [u8; HOURS])
-    requires { (b ≤ most_hours) × (length marks.old ≡ most_hours) }
-    ensures { Part 0 marks.old marks.new 0 a (max a b) (λ _. mark) }
-{
-    let mut k = a;
-    while k < b {
-        marks[k] = mark;
-        k += 1;
+    // Whether it begins at hour `from` or later, is not empty and ends within the year.
+    fn stands(self, from: Hour) -> bool
+        ensures { result ≡ (leb from.0 self.first.0
+            && (leb 1 self.hours.0 && leb (self.first.0 + self.hours.0) year_hours)) }
+    {
+        (from <= self.first) & ((Hour(1) <= self.hours) & self.in_year())
+    }
+
+    // The hour after its last.
+    fn end(self) -> Hour
+        requires { self.first.0 + self.hours.0 ≤ year_hours }
+        ensures { result.0 ≡ self.first.0 + self.hours.0 }
+    {
+        Hour(self.first.0 + self.hours.0)
+    }
+
+    // Marks the hours of a day that it holds.
+    fn mark(self, day: Day, order: u8, marks: &mut [u8; HOURS])
+        requires { (length marks.old ≡ most_hours) × (self.first.0 + self.hours.0 ≤ year_hours) }
+        ensures { marks.new
+            ≡ marked day.first.0 day.hours.0 order self.first.0 self.hours.0 marks.old }
+    {
+        let begin = self.first.less(day.first).min(day.hours);
+        let end = self.end().less(day.first).min(day.hours);
+        marks[usize::from(begin.0)..usize::from(end.0)].fill(order);
     }
 }
 
-// Marks the hours of a day that a window of n hours holds.
-fn mark(day: Hour, hours: Hour, order: u8, first: Hour, n: Hour, marks: &mut [u8; HOURS])
-    requires { (hours.0 ≤ most_hours) × (length marks.old ≡ most_hours) × (first.0 + n.0 ≤ year_hours) }
-    ensures { marks.new
-        ≡ marked day.0 hours.0 order first.0 n.0 marks.old }
+// The marks of the hours of a day that the windows of a list hold; none where the windows are not whole, in order and
+// within the year. The list is gone over once, two numbers at a time, and what is left at its end is looked at.
+pub(crate) fn survey(list: &[u16], day: Day, order: u8) -> Option<[u8; HOURS]>
+    ensures stand { is_some result ≡ windows_from 0 list.now }
+    ensures marks { IfSome result (λ marks. marks
+        ≡ overlaid day.first.0 day.hours.0 order list.now (replicate most_hours 0)) }
 {
-    let begin = first.less(day);
-    let end = Hour(first.0 + n.0).less(day).least(hours);
-    put(order, begin.0 as usize, end.0 as usize, marks);
-}
-
-// Goes over a list once: whether its windows are whole, in order and within the year; and, if they are, the hours of
-// the day that they hold are marked.
-pub(crate) fn survey(
-    list: &[u16],
-    day: Hour,
-    hours: Hour,
-    order: u8,
-    marks: &mut [u8; HOURS],
-) -> bool
-    requires { (hours.0 ≤ most_hours) × (length marks.old ≡ most_hours) }
-    ensures value { result ≡ windows_from 0 list.now }
-    ensures marks_after { result ≡ true → marks.new
-        ≡ overlaid day.0 hours.0 order list.now marks.old }
-{
+    let mut marks = [0u8; HOURS];
     let mut from = Hour(0);
-    let mut i = 0;
-    while i < list.len() {
-        if list.len() - i < 2 {
-            return false;
+    let mut rest = list;
+    while let [first, n, more @ ..] = rest {
+        let window = Window {
+            first: Hour(*first),
+            hours: Hour(*n),
+        };
+        if !window.stands(from) {
+            return None;
         }
-        let first = Hour(list[i]);
-        let n = Hour(list[i + 1]);
-        if !stands(from, first, n) {
-            return false;
-        }
-        mark(day, hours, order, first, n, marks);
-        from = Hour(first.0 + n.0);
-        i += 2;
+        window.mark(day, order, &mut marks);
+        from = window.end();
+        rest = more;
     }
-    true
+    rest.is_empty().then_some(marks)
 }

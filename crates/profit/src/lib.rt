@@ -3,23 +3,22 @@
 // case within the limits.
 #![tactic(auto)]
 
-ghost use Rattle.std.specs.Prelude.{◌≡◌, List, ℕ, ◌*◌, ◌≤◌, nat_abs};
-ghost use Rattle.cases.specs.Refusals.{refusal_of};
+ghost use Rattle.std.specs.Prelude.{List, ℕ, ◌*◌, ◌≤◌, nat_abs};
 ghost use Rattle.day.specs.Profit.{profit_at, profit_of};
 ghost use Rattle.machine.specs.Bounds.{most_margin, most_fee, most_hour_profit, most_profit};
 ghost use Rattle.profit.specs.Worth.{Worth, Hourly, charge_of};
 
-use cases::Case;
+use cases::admitted::Admitted;
 use hours::marks::{Marks, marks_of, output_at};
 use money::{charged, difference, margin, multiple, sum};
 use quantities::{HalfMills, Hour, Output};
 
 // What an hour costs beside F, by its marks.
-fn charge_of(case: Case, m: Marks) -> HalfMills
-    requires case_value { refusal_of case ≡ 0 }
-    requires online_bound { (m.online ≤ 1) × (m.start ≤ 1) × (m.stop ≤ 1) }
-    ensures { Worth (charge_of case m) (3 * most_fee) result.0 }
+fn charge_of(case: &Admitted, m: Marks) -> HalfMills
+    requires { (m.online ≤ 1) × (m.start ≤ 1) × (m.stop ≤ 1) }
+    ensures { Worth (charge_of case.now.case m) (3 * most_fee) result.0 }
 {
+    let case = &case.case;
     let online = charged(case.fixed, m.online);
     let start = charged(case.startcost, m.start);
     let stop = charged(case.stopcost, m.stop);
@@ -27,31 +26,25 @@ fn charge_of(case: Case, m: Marks) -> HalfMills
 }
 
 // The profit of an hour from output q to p, with what a half-megawatt-hour earns.
-fn hour_profit(case: Case, over: HalfMills, q: Output, p: Output) -> HalfMills
-    requires case_value { refusal_of case ≡ 0 }
-    requires over_bound { nat_abs over.0 ≤ most_margin }
-    ensures { (l : List ℕ) (k : ℕ) → Hourly case l k over.0 q.0 p.0
-        → Worth (profit_at case l k) most_hour_profit result.0 }
+fn hour_profit(case: &Admitted, over: HalfMills, q: Output, p: Output) -> HalfMills
+    requires { nat_abs over.0 ≤ most_margin }
+    ensures { (l : List ℕ) (k : ℕ) → Hourly case.now.case l k over.0 q.0 p.0
+        → Worth (profit_at case.now.case l k) most_hour_profit result.0 }
 {
-    let gain = multiple(over, (p.0 as usize) + (q.0 as usize));
+    let gain = multiple(over, usize::from(p.0) + usize::from(q.0));
     difference(gain, charge_of(case, marks_of(q, p)))
 }
 
 // The profit of the day, for a list of any length. The price of hour k + 1 stands at place k.
-pub fn profit_of(case: Case, list: &[u16]) -> HalfMills
-    requires { refusal_of case ≡ 0 }
-    ensures { Worth (profit_of case list.now) most_profit result.0 }
+pub fn profit_of(case: &Admitted, list: &[u16]) -> HalfMills
+    ensures { Worth (profit_of case.now.case list.now) most_profit result.0 }
 {
-    let prices = case.prices;
-    let variable = case.variable;
+    let day = &case.case;
     let mut total = HalfMills(0);
-    let mut was = case.initial;
-    let hours = case.hours;
-    let mut k = 0;
-    while k < hours {
-        let over = margin(prices[k], variable);
-        k += 1;
-        let is = output_at(case, list, Hour(k as u16));
+    let mut was = day.initial;
+    for k in 0..day.hours {
+        let over = margin(day.prices[k], day.variable);
+        let is = output_at(day, list, Hour(k as u16 + 1));
         total = sum(total, hour_profit(case, over, was, is));
         was = is;
     }

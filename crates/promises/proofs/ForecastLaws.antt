@@ -17,7 +17,6 @@ use Rattle.curve.specs.Cost.{costs_length, record_of, accepted as acceptable}
 use Rattle.laws.proofs.Signed.{linear, parts_add, parts_sub, parts_mul, parts_pos}
 use Rattle.cases.specs.declared.Case.{Case}
 use Rattle.quantities.specs.declared.Mills.{Mills}
-use Rattle.cases.specs.declared.Outcome.TheVariants.{Accepted}
 use Rattle.cases.specs.declared.Verdict.{Verdict}
 use Rattle.cases.specs.Symbols.{high, last}
 use Rattle.day.specs.Marks.{p}
@@ -44,6 +43,9 @@ use Rattle.day.proofs.PricesLaws.{keeps_prices}
 use Rattle.promises.proofs.PricesLaws.{profit_of_gain, profit_by_gain, gain_no_lower, gain_apart}
 use Rattle.promises.proofs.PricesLaws.{best_no_lower, best_regret, best_raised, best_raised_at, earns_half_way}
 use Rattle.promises.proofs.PricesLaws.{best_half_way}
+use Rattle.quantities.specs.Outcomes.{Accepted}
+use Rattle.std.specs.Prelude.{Result}
+use Rattle.quantities.specs.declared.Refusal.{Refusal}
 
 -- what a search answers: the best list of those that pass, with what it earns; or 11, and no list passes
 pub data Answered (hours : ℕ) (passes : List ℕ → Bool) (pays : List ℕ → ℤ) (s : Scheduling) : Type 0 where
@@ -354,6 +356,6 @@ module _ (k : Kind) (good : T (acceptable (record_of k))) (c : Case) (table work
   curve_forecast =
       forecasts _ (λ f l. earned_by k (with_prices c f) l) earned_by_gain
       (λ f. searched c f (earned_by k (at c f)) (work f) (outputs f) (search_by f))
-      (λ f l s. ap (λ (x : Filling Verdict). verdict_numbers x.answer)
+      (λ f l s. ap (λ (x : Filling (Result Verdict Refusal)). verdict_numbers x.answer)
       ((curve_passes k good (at c f) l (table f) f.accepted (room f)).0 (there c f l s)))
       (λ f l s. own c f l (keeps_of_curve_passes k good (at c f) l (table f) f.accepted (room f) s))

@@ -1,20 +1,20 @@
 -- The twelve known days of document 01 as rows under one statement: the written case is read back and scheduled or
 -- checked. Definitions only; the statement is proved in proofs/Days.
 -- Assumes nothing.
-use Rattle.std.specs.Prelude.{◌≡◌, List, [], ◌∷◌, map, ℕ, ℤ, pos, negsuc, length, replicate}
+use Rattle.std.specs.Prelude.{◌≡◌, List, [], ◌∷◌, map, ℕ, ℤ, pos, negsuc, length, replicate, Result, Ok, Err}
 use Rattle.std.proofs.Math.Option.{Option, none, some}
 use Rattle.cases.specs.declared.Case.{Case}
 use Rattle.quantities.specs.declared.Output.{Output}
 use Rattle.quantities.specs.declared.Mills.{Mills}
 use Rattle.cases.specs.declared.Reading.{Reading}
 use Rattle.cases.specs.declared.Verdict.{Verdict}
-use Rattle.cases.specs.declared.Verdict.TheVariants.{Passes, Breaks, Refused as NotChecked}
-use Rattle.cases.specs.declared.Plan.{Plan}
-use Rattle.cases.specs.declared.Plan.TheVariants.{Found, Refused as NotPlanned}
+use Rattle.cases.specs.declared.Verdict.TheVariants.{Passes, Breaks}
 use Rattle.cases.specs.Limits.{short_work}
 use Rattle.cases.specs.Layout.{bytes_of}
 use Rattle.model.specs.Answers.{Scheduling, check_of, schedule_of}
 use Rattle.cases.specs.Reads.{read_of}
+use Rattle.quantities.specs.declared.Refusal.{Refusal}
+use Rattle.quantities.specs.declared.HalfMills.{HalfMills}
 
 -- a list with its profit in half-mills, an hour with the rule broken there, or the number of a refusal
 pub data Answer : Type 0 where
@@ -22,14 +22,14 @@ pub data Answer : Type 0 where
   breaks : ℕ → ℕ → Answer
   refuses : ℕ → Answer
 
-unfoldable pub of_verdict : List ℕ → Verdict → Answer
-of_verdict l (Passes m) = earns l m.0
-of_verdict l (Breaks b) = breaks b.hour.0 b.rule
-of_verdict l (NotChecked n) = refuses n
+unfoldable pub of_verdict : List ℕ → Result Verdict Refusal → Answer
+of_verdict l (Ok (Passes m)) = earns l m.0
+of_verdict l (Ok (Breaks b)) = breaks b.hour.0 b.rule
+of_verdict l (Err n) = refuses n.0
 
-unfoldable pub of_plan : List ℕ → Plan → Answer
-of_plan l (Found m) = earns l m.0
-of_plan l (NotPlanned n) = refuses n
+unfoldable pub of_plan : List ℕ → Result HalfMills Refusal → Answer
+of_plan l (Ok m) = earns l m.0
+of_plan l (Err n) = refuses n.0
 
 unfoldable pub of_scheduling : Scheduling → Answer
 of_scheduling s = of_plan s.outputs s.answer

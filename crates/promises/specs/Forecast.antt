@@ -1,7 +1,8 @@
 -- What a price forecast can do (request F-8): what holds of a search and a check of one record at rows of prices, by
 -- what the two answer. The promises say it of `schedule` and `check`, by a calendar and by a curve too; no entry rests
 -- on it. Definitions only. Assumes nothing.
-use Rattle.std.specs.Prelude.{◌≡◌, ◌⊎◌, List, ℕ, ◌*◌, ◌≤◌, ℤ, pos, nat_abs, ◌+ℤ◌, ◌-ℤ◌, ◌*ℤ◌, get_or, take, ◌≤ℤ◌, ◌<ℤ◌}
+use Rattle.std.specs.Prelude.{◌≡◌, ◌⊎◌, List, ℕ, ◌*◌, ◌≤◌, ℤ, pos, nat_abs, ◌+ℤ◌, ◌-ℤ◌, ◌*ℤ◌, get_or, take, ◌≤ℤ◌}
+use Rattle.std.specs.Prelude.{◌<ℤ◌, Result}
 use Rattle.cases.specs.declared.Case.{Case}
 use Rattle.quantities.specs.declared.Mills.{Mills}
 use Rattle.cases.specs.declared.Verdict.{Verdict}
@@ -11,6 +12,7 @@ use Rattle.cases.specs.Layout.{no_mills, with_arrays}
 use Rattle.cases.specs.Refusals.{refusal_of}
 use Rattle.model.specs.Answers.{Scheduling, verdict_numbers, plan_numbers}
 use Rattle.day.specs.Words.{sum_z}
+use Rattle.quantities.specs.declared.Refusal.{Refusal}
 
 -- the record with other prices, and with other orders
 abbrev pub with_prices : Case → List Mills → Case
@@ -63,7 +65,7 @@ module _ (c : Case) where
   -- a search and a check of the record at each such row
   pub record Calls : Type 0 where
     pub search : Row → Scheduling
-    pub check : Row → List ℕ → Verdict
+    pub check : Row → List ℕ → Result Verdict Refusal
 
 module _ {c : Case} (calls : Calls c) where
   -- what the search answers: its number, the profit in half-mills, and the list that it leaves

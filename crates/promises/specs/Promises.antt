@@ -5,7 +5,6 @@ use Rattle.curve.specs.declared.Kind.{Kind}
 use Rattle.curve.specs.Cost.{record_of, accepted}
 use Rattle.cases.specs.declared.Case.{Case}
 use Rattle.quantities.specs.declared.Mills.{Mills}
-use Rattle.cases.specs.declared.Outcome.TheVariants.{Accepted}
 use Rattle.day.specs.Rules.{keeps}
 use Rattle.day.specs.Profit.{profit_of}
 use Rattle.cases.specs.Forms.{old_form}
@@ -23,6 +22,7 @@ use Rattle.promises.specs.Days.{case7, known_days, Answered}
 use Rattle.cases.specs.Promises.{Promises as CasesPromises}
 use Rattle.day.specs.Promises.{Promises as DayPromises}
 use Rattle.model.specs.Promises.{Promises as ModelPromises}
+use Rattle.quantities.specs.Outcomes.{Accepted}
 
 pub record Promises : Type 0 where
   -- ---- those of each crate below

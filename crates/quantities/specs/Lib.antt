@@ -1,2 +1,3 @@
 -- What a wrapped number has room for.
 pub mod Widths
+pub mod Outcomes

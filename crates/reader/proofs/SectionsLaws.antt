@@ -6,14 +6,16 @@ use Prim.Native.Nat.{ℕ, ◌+◌, ◌*◌, ◌-◌, ◌≤◌, ◌<◌}
 use native.Mathlib.Nat.{mul-one, mul-le-mul_left}
 use native.Mathlib.Omega.{arith}
 use lib.ListN.{length, get_or, get_or-eq_default}
-use Rattle.cases.specs.Forms.{Form as Table, most_entries, entry_length}
-use Rattle.cases.specs.Layout.{section_at, field_at, entries_at, entry_at, case_in}
-use Rattle.cases.proofs.AcceptedLaws.{Whole, length_section}
+use Rattle.cases.specs.Limits.{most_stages, most_hours}
+use Rattle.cases.specs.Forms.{Form as Table, unit_widths, width, most_entries, entry_length}
+use Rattle.cases.specs.Layout.{end_at, section_at, field_at, entries_at, entry_at, case_in}
+use Rattle.cases.proofs.AcceptedLaws.{Whole, ends, length_section}
 use Rattle.cases.proofs.NumbersLaws.{number_at_one}
 use Rattle.reader.specs.declared.forms.Form.{Form}
 use Rattle.reader.specs.declared.forms.Form.TheVariants.{Old, Two, Three}
 use Rattle.reader.specs.Sections.{trajectory_of, day_of, assembled}
 use Rattle.reader.specs.Tables.{table_of}
+use Rattle.reader.proofs.TablesLaws.{sections_four, unit_some, entry_stage, stages_most}
 
 -- the bytes of section i: as many as its form allows at the most, and those of the entry where there is one
 module _ {f : Table} {file : List ℕ} (w : Whole f file) (i : ℕ) (h : i < length f) where
@@ -30,6 +32,30 @@ module _ {f : Table} {file : List ℕ} (w : Whole f file) (i : ℕ) (h : i < len
   section_one e =
       let n : entries_at f file i ≡ 1 = omega (arith, w.entries_in i h) in
       length_section w i h ∙ sym (w.whole_entries i h) ∙ ap (λ k. entry_length f i * k) n ∙ mul-one (entry_length f i)
+
+-- in a form of a file: where the sections lie, and how long the first ones are
+module _ (f : Form) {file : List ℕ} (w : Whole (table_of f) file) where
+  here : (i : ℕ) → i < 4 → i < length (table_of f)
+  here i h = omega (arith, sections_four f)
+
+  pub section_room : (i : ℕ) → i < 4 → (4 * i + 4 ≤ length file) × (end_at file i ≤ length file)
+  section_room i h = (omega (arith, w.linked.long, here i h), ends w i (here i h))
+
+  -- a trajectory has two bytes for an output
+  pub stages_room : (i : ℕ) → (i ≡ 0 → ⊥) → i < 3 → length (section_at file i) ≤ 2 * most_stages
+  stages_room i n h =
+      omega (
+        arith,
+        section_le w i (here i (omega arith)),
+        ap (λ k. entry_length (table_of f) i * k) (stages_most i n h),
+        entry_stage f i n h,
+      )
+
+  pub day_room : length (section_at file 3) ≤ entry_length (table_of f) 3 * most_hours
+  day_room = section_le w 3 (here 3 (omega arith))
+
+  pub unit_room : width unit_widths ≤ length (section_at file 0)
+  unit_room = omega (arith, section_one w 0 (here 0 (omega arith)) refl, unit_some f)
 
 module _ (file : List ℕ) where
   pub case_in_sections : (f : Form) → Whole (table_of f) file

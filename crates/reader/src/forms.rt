@@ -23,8 +23,7 @@ impl Form {
     {
         match self {
             Form::Old => OLD_SECTIONS,
-            Form::Two => SECTIONS,
-            Form::Three => SECTIONS,
+            Form::Two | Form::Three => SECTIONS,
         }
     }
 
@@ -33,8 +32,7 @@ impl Form {
         ensures { result ≡ entry_length (table_of self) 0 }
     {
         match self {
-            Form::Old => OLD_UNIT_BYTES,
-            Form::Two => OLD_UNIT_BYTES,
+            Form::Old | Form::Two => OLD_UNIT_BYTES,
             Form::Three => UNIT_BYTES,
         }
     }
@@ -45,8 +43,7 @@ impl Form {
     {
         match self {
             Form::Old => OLD_HOUR_BYTES,
-            Form::Two => HOUR_BYTES,
-            Form::Three => HOUR_BYTES,
+            Form::Two | Form::Three => HOUR_BYTES,
         }
     }
 }
@@ -56,16 +53,12 @@ pub(crate) fn entry_bytes(form: Form, i: usize) -> usize
     requires { i < length (table_of form) }
     ensures { result ≡ entry_length (table_of form) i }
 {
-    if i == 0 {
-        return form.unit();
+    match i {
+        0 => form.unit(),
+        1 | 2 => STAGE_BYTES,
+        3 => form.hour(),
+        _ => FORM_BYTES,
     }
-    if i < 3 {
-        return STAGE_BYTES;
-    }
-    if i == 3 {
-        return form.hour();
-    }
-    FORM_BYTES
 }
 
 // Entries of section i, at the most.
@@ -73,11 +66,9 @@ pub(crate) fn most_entries(i: usize) -> usize
     requires { i < 5 }
     ensures { result ≡ get_or most_entries i 0 }
 {
-    if i == 3 {
-        return HOURS;
+    match i {
+        1 | 2 => STAGES,
+        3 => HOURS,
+        _ => 1,
     }
-    if (i == 1) | (i == 2) {
-        return STAGES;
-    }
-    1
 }

@@ -14,6 +14,7 @@ use crate::numbers::{front, word};
 use cases::{FORM, FORM_TWO, OLD_SECTIONS, PAIR_BYTES, SECTIONS};
 
 // The offset in pair i of a file.
+#[tactic(auto, using(cases::proofs::PartedLaws::offset_at_word))]
 pub(crate) fn offset_at(file: &[u8], i: usize) -> usize
     requires { 4 * i + 4 ≤ length file.now }
     ensures { (result ≡ offset_at file.now i) × (result < words) }
@@ -22,6 +23,7 @@ pub(crate) fn offset_at(file: &[u8], i: usize) -> usize
 }
 
 // The length in pair i of a file.
+#[tactic(auto, using(cases::proofs::PartedLaws::length_at_word))]
 pub(crate) fn length_at(file: &[u8], i: usize) -> usize
     requires { 4 * i + 4 ≤ length file.now }
     ensures { (result ≡ length_at file.now i) × (result < words) }
@@ -30,6 +32,7 @@ pub(crate) fn length_at(file: &[u8], i: usize) -> usize
 }
 
 // Where section i of a file ends; the sum does not wrap.
+#[tactic(auto, using(cases::proofs::PartedLaws::end_at_sum))]
 pub(crate) fn end_at(file: &[u8], i: usize) -> usize
     requires { 4 * i + 4 ≤ length file.now }
     ensures { result ≡ end_at file.now i }
@@ -38,6 +41,7 @@ pub(crate) fn end_at(file: &[u8], i: usize) -> usize
 }
 
 // Section i of a file, from its own offset to its end.
+#[tactic(auto, using(cases::proofs::PartedLaws::end_at_sum, cases::proofs::PartedLaws::section_at_part))]
 pub(crate) fn section(file: &[u8], i: usize) -> &[u8]
     requires { (4 * i + 4 ≤ length file.now) × (end_at file.now i ≤ length file.now) }
     ensures { result.now ≡ section_at file.now i }
@@ -48,6 +52,7 @@ pub(crate) fn section(file: &[u8], i: usize) -> &[u8]
 }
 
 // How many sections a file has, by its first offset.
+#[tactic(auto, using(cases::proofs::FormsLaws::form_of_old, cases::proofs::FormsLaws::length_numbered))]
 fn sections_of(file: &[u8]) -> usize
     requires { 4 ≤ length file.now }
     ensures { result ≡ length (form_of file.now) }
@@ -65,10 +70,8 @@ fn linked(file: &[u8], n: usize) -> bool
         ≡ every (λ i. eqb (offset_at file.now i) (end_at file.now (before i))) (n - 1) }
 {
     let mut so = true;
-    let mut i = 0;
-    while i < n - 1 {
-        so = so & (offset_at(file, i + 1) == end_at(file, i));
-        i += 1;
+    for i in 0..n - 1 {
+        so &= offset_at(file, i + 1) == end_at(file, i);
     }
     so
 }
@@ -114,6 +117,7 @@ pub fn form_of(file: &[u8]) -> Form
 
 // Whether a section of so many bytes is 1 to `most` entries of `width` bytes; the entries of a longer one are not
 // counted.
+#[tactic(auto, using(cases::proofs::RefusalsLaws::fits_counted))]
 fn fits(bytes: usize, width: usize, most: usize) -> bool
     requires { (0 < width) × (width * most < longs) }
     ensures { result ≡ fits width most bytes }
@@ -128,12 +132,9 @@ pub fn refusal2_file(file: &[u8]) -> bool
     ensures { result ≡ refusal2_file file.now }
 {
     let form = form_of(file);
-    let sections = form.sections();
     let mut so = true;
-    let mut i = 0;
-    while i < sections {
-        so = so & fits(length_at(file, i), entry_bytes(form, i), most_entries(i));
-        i += 1;
+    for i in 0..form.sections() {
+        so &= fits(length_at(file, i), entry_bytes(form, i), most_entries(i));
     }
     !so
 }

@@ -15,14 +15,14 @@ use crate::pairs::{form_of, section};
 use cases::{Case, HOURS, STAGE_BYTES, STAGES};
 use quantities::{Hour, Mills, Output};
 
-// The outputs of a trajectory, and how many count.
+// The outputs of a trajectory, and how many count: arrays as the record has them, since there is no heap.
 #[derive(Clone, Copy)]
 pub(crate) struct Trajectory {
     outputs: [Output; STAGES],
     count: usize,
 }
 
-// The prices and order bytes of a day, and how many count.
+// The prices and order bytes of a day, and how many count, likewise.
 #[derive(Clone, Copy)]
 pub(crate) struct Day {
     prices: [Mills; HOURS],
@@ -37,27 +37,26 @@ fn read_trajectory(part: &[u8]) -> Trajectory
 {
     let count = count::whole(part.len(), STAGE_BYTES);
     let mut outputs = [Output(0); STAGES];
-    let mut i = 0;
-    while i < count {
+    for i in 0..count {
         outputs[i] = Output(word(part, STAGE_BYTES * i));
-        i += 1;
     }
     Trajectory { outputs, count }
 }
 
 // The price of the hour that begins at an offset.
+#[tactic(auto, unfolding(cases::specs::Layout::field_at))]
 fn price_at(part: &[u8], at: usize, form: Form) -> Mills
     requires { at + entry_length (table_of form) 3 ≤ length part.now }
     ensures { result.0 ≡ signed (field_at (get_or (table_of form) 3 []) part.now at 0) }
 {
     match form {
         Form::Old => short_mills(part, at),
-        Form::Two => mills(part, at),
-        Form::Three => mills(part, at),
+        Form::Two | Form::Three => mills(part, at),
     }
 }
 
 // The order byte of the hour that begins at an offset: its last.
+#[tactic(auto, using(crate::proofs::SectionsLaws::order_last))]
 fn order_at(part: &[u8], at: usize, form: Form) -> u8
     requires { at + entry_length (table_of form) 3 ≤ length part.now }
     ensures { result ≡ field_at (get_or (table_of form) 3 []) part.now at 1 }
@@ -75,13 +74,9 @@ fn read_day(part: &[u8], form: Form) -> Day
     let count = count::whole(part.len(), width);
     let mut prices = [Mills(0); HOURS];
     let mut orders = [0u8; HOURS];
-    let mut i = 0;
-    while i < count {
-        let price = price_at(part, width * i, form);
-        let order = order_at(part, width * i, form);
-        prices[i] = price;
-        orders[i] = order;
-        i += 1;
+    for i in 0..count {
+        prices[i] = price_at(part, width * i, form);
+        orders[i] = order_at(part, width * i, form);
     }
     Day {
         prices,
@@ -91,16 +86,24 @@ fn read_day(part: &[u8], form: Form) -> Day
 }
 
 // The unit section, with what the other sections hold; a stage that it lacks is 0.
+#[tactic(auto, unfolding(crate::specs::Sections::assembled))]
 fn read_unit(part: &[u8], rise: Trajectory, fall: Trajectory, day: Day) -> Case
     requires { width unit_widths ≤ length part.now }
     ensures { result ≡ assembled part.now rise fall day }
 {
-    let upstage = byte(part, 32);
-    let downstage = byte(part, 33);
-    let rises = rise.outputs;
-    let falls = fall.outputs;
-    let prices = day.prices;
-    let orders = day.orders;
+    let Trajectory {
+        outputs: rise,
+        count: rises,
+    } = rise;
+    let Trajectory {
+        outputs: fall,
+        count: falls,
+    } = fall;
+    let Day {
+        prices,
+        orders,
+        count: hours,
+    } = day;
     Case {
         capacity: Output(word(part, 0)),
         minimum: Output(word(part, 2)),
@@ -114,15 +117,15 @@ fn read_unit(part: &[u8], rise: Trajectory, fall: Trajectory, day: Day) -> Case
         stopcost: mills(part, 24),
         initial: Output(word(part, 28)),
         elapsed: Hour(word(part, 30)),
-        upstage: upstage,
-        downstage: downstage,
-        rise: rises,
-        fall: falls,
-        prices: prices,
-        orders: orders,
-        rises: rise.count,
-        falls: fall.count,
-        hours: day.count,
+        upstage: byte(part, 32),
+        downstage: byte(part, 33),
+        rise,
+        fall,
+        prices,
+        orders,
+        rises,
+        falls,
+        hours,
     }
 }
 

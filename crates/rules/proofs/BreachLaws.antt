@@ -1,12 +1,10 @@
 -- The first breach of a day, as it is looked for hour by hour. Assumes nothing.
 use mathlib.Core.Path.{◌≡◌, refl, sym, ap, ◌∙◌}
-use mathlib.Core.Bool.{cond}
 use mathlib.Core.List.{List}
 use mathlib.Core.Option.{none, some}
 use Prim.Native.Nat.{ℕ, ◌+◌, ◌-◌, ◌≤◌, ◌<◌}
 use native.Mathlib.Omega.{arith}
-use lib.Dec.{eqb}
-use borrow.Author.Tests.{ne_eqb}
+use Rattle.std.specs.Prelude.{Some, None}
 use Rattle.cases.specs.declared.Case.{Case}
 use Rattle.cases.specs.declared.Breach.{Breach}
 use Rattle.day.specs.Marks.{y}
@@ -16,13 +14,13 @@ use Rattle.broken.specs.declared.times.Since.{Since}
 use Rattle.broken.specs.Elapsed.{Held, Elapsed}
 use Rattle.rules.specs.Found.{found}
 
-pub found_none : (b : Breach) → b.rule ≡ 0 → found b ≡ none
+pub found_none : found None ≡ none
 unfolding found
-found_none b e = ap (λ n. cond (eqb n 0) none (some b)) e
+found_none = refl
 
-pub found_some : (b : Breach) → (b.rule ≡ 0 → ⊥) → found b ≡ some b
+pub found_some : (b : Breach) → found (Some b) ≡ some b
 unfolding found
-found_some b n = ap (λ t. cond t none (some b)) (ne_eqb b.rule 0 n)
+found_some b = refl
 
 -- the breach of an hour that breaks rule r
 abbrev at : ℕ → ℕ → Breach
@@ -33,16 +31,16 @@ abbrev pub reach : Case → ℕ
 reach c = c.hours + c.falls - 1
 
 module _ (c : Case) (l : List ℕ) where
-  pub broken_here : (k n r : ℕ) → r ≡ broken_at c l k → (r ≡ 0 → ⊥) → breach_from c l k (n + 1) ≡ found (at k r)
+  pub broken_here : (k n r : ℕ) → r ≡ broken_at c l k → (r ≡ 0 → ⊥) → breach_from c l k (n + 1) ≡ found (Some (at k r))
   broken_here k n r e m =
-      breach_from_broken c l k n (λ z. m (e ∙ z)) ∙ ap (λ x. some (at k x)) (sym e) ∙ sym (found_some (at k r) m)
+      breach_from_broken c l k n (λ z. m (e ∙ z)) ∙ ap (λ x. some (at k x)) (sym e) ∙ sym (found_some (at k r))
 
   -- hour 0, and then the hours from 1 on
   module _ (some : 1 ≤ c.falls) where
     hours_from : breach c l ≡ breach_from c l 0 (reach c + 1)
     hours_from = breach_is c l ∙ ap (breach_from c l 0) (omega arith)
 
-    pub broken_edge : (r : ℕ) → r ≡ broken_at c l 0 → (r ≡ 0 → ⊥) → breach c l ≡ found (at 0 r)
+    pub broken_edge : (r : ℕ) → r ≡ broken_at c l 0 → (r ≡ 0 → ⊥) → breach c l ≡ found (Some (at 0 r))
     broken_edge r e m = hours_from ∙ broken_here 0 (reach c) r e m
 
     pub kept_edge : broken_at c l 0 ≡ 0 → breach c l ≡ breach_from c l 1 (reach c)
@@ -71,13 +69,14 @@ module _ {c : Case} {l : List ℕ} {a n : ℕ} where
           onward = next m ∙ breach_from_kept c l k (a + n - k - 1) e ∙ ap (breach_from c l (k + 1)) (omega arith);
         }
 
-    pub onward_broken : (r : ℕ) → k < a + n → r ≡ broken_at c l k → (r ≡ 0 → ⊥) → breach_from c l a n ≡ found (at k r)
+    pub onward_broken : (r : ℕ) → k < a + n → r ≡ broken_at c l k → (r ≡ 0 → ⊥)
+        → breach_from c l a n ≡ found (Some (at k r))
     onward_broken r m e f = next m ∙ broken_here c l k (a + n - k - 1) r e f
 
-    pub onward_end : a + n ≤ k → breach_from c l a n ≡ found (at 0 0)
+    pub onward_end : a + n ≤ k → breach_from c l a n ≡ found None
     onward_end m =
         h.onward ∙ ap (breach_from c l k) (let e : a + n - k ≡ 0 = omega arith in e)
-        ∙ breach_from_none c l k ∙ sym (found_none (at 0 0) refl)
+        ∙ breach_from_none c l k ∙ sym found_none
 
 -- the hours of the day up to hour k − 1 break no rule, with the hours since the latest start and stop
 pub record Kept (c : Case) (l : List ℕ) (k : ℕ) (s : Since) : Type 0 where

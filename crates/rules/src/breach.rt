@@ -1,90 +1,90 @@
 // The first breach of a day: the earliest hour, hour 0 and those of a stop after T included, and there the lowest rule
 // (day's specs/Rules). The starts and stops of the list are counted once.
-ghost use Rattle.std.specs.Prelude.{◌≡◌, List, ℕ, ◌+◌, ◌-◌, length};
-ghost use Rattle.cases.specs.Refusals.{refusal_of};
+ghost use Rattle.std.specs.Prelude.{◌≡◌, ◌+◌, ◌-◌, length};
+ghost use Rattle.day.specs.Marks.{y};
 ghost use Rattle.day.specs.Rules.{breach_from, breach};
-ghost use Rattle.hours.specs.Counted.{Counted};
+ghost use Rattle.broken.specs.Elapsed.{Held};
 ghost use Rattle.rules.specs.Found.{found};
-ghost use Rattle.rules.specs.Late.{Late};
 
 use broken::times::{later, opening, passed};
 use broken::{broken_after, broken_at, broken_edge};
-use cases::{Breach, Case};
+use cases::Breach;
+use cases::admitted::Admitted;
+use hours::counted::Counts;
 use hours::counts::{COUNTS, between, count_marks};
+use hours::numbered::NumberedHour;
 use hours::numbers_at;
 use quantities::Hour;
 
-// The first breach of the hours above T, with the hours since the latest start at hour T + 1; its rule is 0 where there
-// is none.
-fn late_breach(case: Case, stops: &[u8; COUNTS], since: Hour) -> Breach
-    requires case_value { refusal_of case ≡ 0 }
-    requires by_index { (l : List ℕ) × Late case l stops.now since.0 }
-    ensures { (l : List ℕ) → Late case l stops.now since.0
-        → breach_from case l (case.hours + 1) (case.falls - 1) ≡ found result }
+// The first breach of the hours above T, with the hours since the latest start at hour T + 1.
+fn late_breach(counts: &Counts<'_>, since: Hour) -> Option<Breach>
+    requires { Held counts.now.case.now.case (y counts.now.case.now.case counts.now.list.now)
+        (counts.now.case.now.case.hours + 1) since.0 }
+    ensures { breach_from counts.now.case.now.case counts.now.list.now (counts.now.case.now.case.hours + 1)
+        (counts.now.case.now.case.falls - 1) ≡ found result }
 {
-    let end = case.hours + case.falls;
+    let case = &counts.case.case;
     let mut start = since;
-    let mut k = case.hours + 1;
-    while k < end {
+    for k in case.hours + 1..case.hours + case.falls {
         let hour = Hour(k as u16);
-        let rule = broken_after(case, between(stops, hour, hour.next()), start);
+        let rule = broken_after(case, between(counts.stops, hour, hour.next()), start);
         if rule != 0 {
-            return Breach {
-                hour: hour,
-                rule: rule,
-            };
+            return Some(Breach { hour, rule });
         }
         start = later(start, 0);
-        k += 1;
     }
-    Breach {
-        hour: Hour(0),
-        rule: 0,
-    }
+    None
 }
 
-// The first breach of the hours from 1 on; its rule is 0 where there is none. The order of hour k is at place k − 1.
-fn later_breach(case: Case, list: &[u16], starts: &[u8; COUNTS], stops: &[u8; COUNTS]) -> Breach
-    requires case_value { refusal_of case ≡ 0 }
-    requires counted { Counted case list.now starts.now stops.now }
-    ensures { breach_from case list.now 1 (case.hours + case.falls - 1) ≡ found result }
+// The first breach of the hours from 1 on. The order of hour i + 1 is at place i.
+fn later_breach(counts: &Counts<'_>) -> Option<Breach>
+    ensures { breach_from counts.now.case.now.case counts.now.list.now 1
+        (counts.now.case.now.case.hours + counts.now.case.now.case.falls - 1) ≡ found result }
 {
-    let orders = case.orders;
-    let hours = case.hours;
+    let case = &counts.case.case;
     let mut since = opening(case);
-    let mut k = 1;
-    while k <= hours {
-        let hour = Hour(k as u16);
-        let n = numbers_at(case, list, starts, stops, hour);
-        let rule = broken_at(case, n, since, orders[k - 1]);
+    for i in 0..case.hours {
+        let hour = Hour(i as u16 + 1);
+        let numbered = NumberedHour {
+            counts: *counts,
+            hour,
+            numbers: numbers_at(counts, hour),
+        };
+        let rule = broken_at(&numbered, since, case.orders[i]);
         if rule != 0 {
-            return Breach {
-                hour: hour,
-                rule: rule,
-            };
+            return Some(Breach { hour, rule });
         }
-        since = passed(since, n);
-        k += 1;
+        since = passed(since, &numbered);
     }
-    late_breach(case, stops, since.start)
+    late_breach(counts, since.start)
 }
 
-// The first breach of the day, for a list of T outputs; its rule is 0 where there is none.
+// The first breach of the day, for a list of T outputs.
 #[inline(always)]
-pub fn first_breach(case: Case, list: &[u16]) -> Breach
-    requires case_value { refusal_of case ≡ 0 }
-    requires list_len { length list.now ≡ case.hours }
-    ensures { breach case list.now ≡ found result }
+pub fn first_breach(case: &Admitted, list: &[u16]) -> Option<Breach>
+    requires { length list.now ≡ case.now.case.hours }
+    ensures { breach case.now.case list.now ≡ found result }
 {
     let mut starts = [0u8; COUNTS];
     let mut stops = [0u8; COUNTS];
     count_marks(case, list, &mut starts, &mut stops);
-    let edge = broken_edge(case, numbers_at(case, list, &starts, &stops, Hour(0)));
+    let counts = Counts {
+        case,
+        list,
+        starts: &starts,
+        stops: &stops,
+    };
+    let first = NumberedHour {
+        counts,
+        hour: Hour(0),
+        numbers: numbers_at(&counts, Hour(0)),
+    };
+    let edge = broken_edge(&first);
     if edge != 0 {
-        return Breach {
+        return Some(Breach {
             hour: Hour(0),
             rule: edge,
-        };
+        });
     }
-    later_breach(case, list, &starts, &stops)
+    later_breach(&counts)
 }

@@ -6,49 +6,42 @@
 
 pub mod breach;
 
-ghost use Rattle.std.specs.Prelude.{◌≡◌, length};
+ghost use Rattle.std.specs.Prelude.{◌≡◌, Ok, length};
 ghost use Rattle.day.specs.Rules.{breach};
 ghost use Rattle.day.specs.Profit.{profit_of};
-ghost use Rattle.cases.specs.Refusals.{refusal_of};
 ghost use Rattle.model.specs.Answers.{judged, check_of};
 
 use breach::first_breach;
-use cases::{Case, Outcome, Reading, Verdict};
-use limits::refusal_of;
+use cases::admitted::Admitted;
+use cases::{Reading, Verdict};
 use profit::profit_of;
-
-// The number of a record that no refusal applies to.
-const ACCEPTED: u8 = 0;
+use quantities::Refusal;
 
 // The verdict of a list, for a record within the limits.
-fn judge(case: Case, list: &[u16]) -> Verdict
-    requires case_value { refusal_of case ≡ 0 }
-    requires list_len { length list.now ≡ case.hours }
-    ensures { result ≡ judged (profit_of case list.now) (breach case list.now) }
+fn judge(case: &Admitted, list: &[u16]) -> Verdict
+    requires { length list.now ≡ case.now.case.hours }
+    ensures { Ok result ≡ judged (profit_of case.now.case list.now) (breach case.now.case list.now) }
 {
-    let found = first_breach(case, list);
-    if found.rule == 0 {
-        Verdict::Passes(profit_of(case, list))
-    } else {
-        Verdict::Breaks(found)
+    match first_breach(case, list) {
+        Some(breach) => Verdict::Breaks(breach),
+        None => Verdict::Passes(profit_of(case, list)),
     }
 }
 
 // The verdict of a list on the case that was read.
-pub fn check(reading: Reading, list: &[u16]) -> Verdict
+#[tactic(auto, using(model::proofs::CheckLaws::checking))]
+pub fn check(reading: Reading, list: &[u16]) -> Result<Verdict, Refusal>
     ensures { result ≡ check_of reading.outcome reading.case list.now }
 {
+    // the form that document 01 names
     let outcome = reading.outcome;
-    let Outcome::Accepted = outcome else {
-        return Verdict::Refused(limits::number(outcome));
+    let Ok(()) = outcome else {
+        return Err(outcome.unwrap_err());
     };
-    let case = reading.case;
-    let refusal = refusal_of(case);
-    if refusal != ACCEPTED {
-        return Verdict::Refused(refusal);
+    limits::tested(&reading.case)?;
+    let admitted = Admitted { case: reading.case };
+    if list.len() != admitted.case.hours {
+        return Err(Refusal(9));
     }
-    if list.len() != case.hours {
-        return Verdict::Refused(9);
-    }
-    judge(case, list)
+    Ok(judge(&admitted, list))
 }

@@ -95,7 +95,7 @@ module _ (l k : ℕ) (some : 1 ≤ l) where
   pub slot_from_is : k ≤ slot_from l k * l
   slot_from_is = omega (arith, div-add-mod' (k + l - 1) l, mod-lt (k + l - 1) some)
 
-  pub slot_near : slot_from l k * l ≤ k + l - 1
+  slot_near : slot_from l k * l ≤ k + l - 1
   slot_near = omega (arith, div-add-mod' (k + l - 1) l)
 
   -- it is hour k's own, if that has one
@@ -107,9 +107,6 @@ module _ (l k : ℕ) (some : 1 ≤ l) where
       let b : slot_from l k < suc t = lt_of_mul-lt-mul_right l above in
       let same : slot_from l k ≡ t = omega arith in
       ap (λ s. s * l) same ∙ sym e
-
-pub slotted_in : {u : Unit} {l n a b : ℕ} → a ≡ b → Slotted u l n a → Slotted u l n b
-slotted_in {u} {l} {n} e s = subst (Slotted u l n) e s
 
 module _ (u : Unit) (l n : ℕ) {m : ℕ} (slots : Slotted u l n m) (day : ℕ → Tariff) where
   pub saved_start : {xs : List ℤ} → Saved u day l n u.hours.0 xs

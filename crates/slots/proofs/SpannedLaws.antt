@@ -1,13 +1,12 @@
--- Layers of hours in a row: none, from a later hour on, and one more in front. Assumes nothing.
+-- Layers of hours in a row: from a later hour on, and one more in front. Assumes nothing.
 use mathlib.Core.Path.{◌≡◌, ◌∙◌, subst}
 use mathlib.Core.List.{List}
 use mathlib.Core.Logic.{◌⊎◌, inl, inr}
 use Prim.Native.Nat.{ℕ, suc, ◌-◌, ◌*◌, ◌≤◌, ◌<◌}
 use native.Mathlib.Nat.{eq-or-lt_of_le}
 use native.Mathlib.Omega.{arith}
-use lib.ListN.{length}
 use lib.IntN.{ℤ}
-use Rattle.machine.specs.Lengths.{row_length, place_length, kept_length}
+use Rattle.machine.specs.Lengths.{row_length, place_length}
 use Rattle.machine.specs.declared.Unit.{Unit}
 use Rattle.machine.specs.Moves.{Tariff, worth}
 use Rattle.cells.specs.Table.{cells_of}
@@ -16,9 +15,6 @@ use Rattle.slots.specs.Spanned.{Spanned}
 use Rattle.slots.proofs.Slots.{saved_at_same}
 
 module _ (u : Unit) (day : ℕ → Tariff) where
-  pub spanned_start : (c : ℕ) {xs : List ℤ} → length xs ≡ kept_length → Spanned u day c c xs
-  spanned_start c e = record { long = e; at = λ h a l. absurd (omega arith) }
-
   pub spanned_from : {a c : ℕ} (k : ℕ) {xs : List ℤ} → a ≤ k → Spanned u day a c xs → Spanned u day k c xs
   spanned_from k h r = record { long = r.long; at = λ m a l. r.at m (omega arith) l }
 

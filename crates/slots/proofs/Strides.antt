@@ -32,7 +32,7 @@ module _ (u : Unit) (fit : Fit u) (w numbers : ℕ) (width : w ≡ cells_of u + 
   abbrev pub slots_of : ℕ
   slots_of = min (numbers / w) u.hours.0
 
-  pub slots_pos : 1 ≤ slots_of
+  slots_pos : 1 ≤ slots_of
   slots_pos =
       let h : 1 ≤ w = omega arith in
       let room : 1 ≤ numbers / w = (le-div_iff_mul-le h).1 (omega (arith, suc-mul 0 w)) in

@@ -1,25 +1,30 @@
 // Every l-th layer of a day in a slot of its own among the working numbers: how wide a slot is and how many layers from
 // one to the next, a layer into its slot and out of it, and the layer of any hour, made again from the next that is
-// kept. The definitions are those of specs/Saved and of cells' specs/Table. Each function is called by crates of this
-// repository, which keep what it asks for.
+// kept. The definitions are those of specs/Saved and of cells' specs/Table and specs/Ahead. Each function is called by
+// crates of this repository, which keep what it asks for.
 #![tactic(auto)]
 
-ghost use Rattle.std.specs.Prelude.{◌≡◌, ℕ, suc, ◌+◌, ◌*◌, ◌≤◌, ◌<◌, length, get_or, pos};
+pub mod passed;
+
+ghost use Rattle.std.specs.Prelude.{◌≡◌, ℕ, suc, ◌+◌, ◌-◌, ◌*◌, ◌≤◌, ◌<◌, length, get_or, pos};
 ghost use Rattle.laws.specs.Placed.{Part};
 ghost use Rattle.cases.specs.Limits.{long_work};
 ghost use Rattle.quantities.specs.Widths.{words};
 ghost use Rattle.machine.specs.Fit.{Fit};
-ghost use Rattle.machine.specs.Moves.{Tariff, day_of, worth, Worths};
-ghost use Rattle.window.specs.Rows.{Written};
-ghost use Rattle.cells.specs.Table.{Entries, Layer, Day, cells_of};
 ghost use Rattle.machine.specs.Lengths.{side_length};
+ghost use Rattle.machine.specs.Moves.{Tariff, worth, Worths};
+ghost use Rattle.window.specs.Rows.{Written};
+ghost use Rattle.cells.specs.Ahead.{tariffs};
+ghost use Rattle.cells.specs.Table.{Entries, Layer, cells_of};
 ghost use Rattle.slots.specs.Saved.{SavedAt, Kept, Slotted, Saved, Based, slot_from};
 
-use machine::{Charges, ENTRIES, ROW, SIDE, Unit};
+use crate::passed::Passed;
+use cells::ahead::DayAhead;
+use machine::{ENTRIES, ROW, SIDE, Unit};
 use quantities::Hour;
 
 // The numbers of a slot, and how many layers from one that is kept to the next: as few as so many numbers have room
-// for.
+// for. Of a unit alone, before the pass, so that the unit fits is a clause.
 pub fn width_of(u: Unit) -> usize
     requires { Fit u }
     ensures { result ≡ cells_of u + side_length }
@@ -56,17 +61,16 @@ pub fn slot_from(k: Hour, l: Hour) -> Slot
     }
 }
 
-// The first n of `from` into the working numbers, from `off` on.
+// The first n of `from` into the working numbers, from `off` on. A loop, here and in `copy_in`: `copy_from_slice`
+// between lent numbers is a call of `memmove`, which the library does not take from outside (tests/division). The two
+// go in two directions.
 pub fn copy_out(work: &mut [i64], off: usize, from: &[i64], n: usize)
     requires { (off + n ≤ length work.old) × (n ≤ length from.now) }
     ensures { Part (pos 0) work.old work.new off 0 n
         (λ i. get_or from.now i (pos 0)) }
 {
-    let mut i = 0;
-    while i < n {
-        let v = money::value_at(from, i);
-        money::store(work, off + i, v);
-        i += 1;
+    for i in 0..n {
+        money::store(work, off + i, money::value_at(from, i));
     }
 }
 
@@ -76,11 +80,8 @@ pub fn copy_in(work: &[i64], off: usize, to: &mut [i64], n: usize)
     ensures { Written to.old to.new 0 n
         (λ i. get_or work.now (off + i) (pos 0)) }
 {
-    let mut i = 0;
-    while i < n {
-        let v = money::value_at(work, off + i);
-        money::store(to, i, v);
-        i += 1;
+    for i in 0..n {
+        money::store(to, i, money::value_at(work, off + i));
     }
 }
 
@@ -110,7 +111,8 @@ pub fn load_layer(u: Unit, off: usize, work: &[i64], row: &mut [i64; ROW], side:
     copy_in(work, off + n, side, SIDE);
 }
 
-// The layer of hour k into its slot, if it has one.
+// The layer of hour k into its slot, if it has one. The pass is under way, so there is no `Passed` yet: its parts come
+// one by one.
 pub fn save_if(
     u: Unit,
     k: Hour,
@@ -127,30 +129,20 @@ pub fn save_if(
         → Saved u day l.0 n (suc k.0) work.old → Saved u day l.0 n k.0 work.new }
 {
     let slot = slot_from(k, l);
-    if slot.hour.0 == k.0 {
+    if slot.hour == k {
         save_layer(u, slot.number * n, row, side, work);
     }
 }
 
 // The first kept layer that is not before hour k, or the end of the day; its hour is returned.
-pub fn base_layer(
-    u: Unit,
-    k: Hour,
-    l: Hour,
-    n: usize,
-    work: &[i64],
-    row: &mut [i64; ROW],
-    side: &mut [i64; SIDE],
-) -> Hour
-    requires fit { Fit u }
-    requires k_le_hours { (k.0 ≤ u.hours.0) × (Slotted u l.0 n (length work.now)) }
-    requires u_in_bounds { (cells_of u ≤ length row.old) × (length side.old ≡ side_length) }
-    ensures { (day : ℕ → Tariff) → Saved u day l.0 n 0 work.now
-        → Based u day k.0 result.0 row.new side.new }
+fn base_layer(passed: &Passed<'_>, k: Hour, row: &mut [i64; ROW], side: &mut [i64; SIDE]) -> Hour
+    requires k_le_hours { k.0 ≤ passed.now.day.unit.hours.0 }
+    ensures { Based passed.now.day.unit (tariffs passed.now.day) k.0 result.0 row.new side.new }
 {
-    let slot = slot_from(k, l);
-    if slot.hour.0 < u.hours.0 {
-        load_layer(u, slot.number * n, work, row, side);
+    let u = passed.day.unit;
+    let slot = slot_from(k, passed.stride);
+    if slot.hour < u.hours {
+        load_layer(u, slot.number * passed.width, passed.work, row, side);
         return slot.hour;
     }
     rows::end_row(u, row);
@@ -160,57 +152,27 @@ pub fn base_layer(
 
 // From the layer of hour h down to that of hour k.
 pub fn descend(
-    u: Unit,
-    charges: Charges,
-    margins: &[i64],
-    orders: &[u8],
-    costs: &[i64],
+    day: &DayAhead<'_>,
     h: Hour,
     k: Hour,
     entries: &[i64; ENTRIES],
     row: &mut [i64; ROW],
     side: &mut [i64; SIDE],
 )
-    requires fit { Fit u }
-    requires day { Day u margins.now orders.now charges costs.now }
-    requires based { (Based u (day_of margins.now orders.now charges costs.now) k.0 h.0 row.old side.old)
-        × (Entries u (day_of margins.now orders.now charges costs.now) 0 entries.now) }
-    ensures { Layer u (worth u (day_of margins.now orders.now charges
-        costs.now) k.0)
-        row.new side.new }
+    requires based { (Based day.now.unit (tariffs day.now) k.0 h.0 row.old side.old)
+        × (Entries day.now.unit (tariffs day.now) 0 entries.now) }
+    ensures { Layer day.now.unit (worth day.now.unit (tariffs day.now) k.0) row.new side.new }
 {
-    let mut at = h;
-    while k.0 < at.0 {
-        at = Hour(at.0 - 1);
-        layers::step_hour(u, charges, margins, orders, costs, at, entries, row, side);
+    for at in (k.0..h.0).rev() {
+        layers::step_hour(day, Hour(at), entries, row, side);
     }
 }
 
 // The layer of hour k, made again from the first kept layer that is not before it.
-pub fn layer_at(
-    u: Unit,
-    charges: Charges,
-    margins: &[i64],
-    orders: &[u8],
-    costs: &[i64],
-    k: Hour,
-    l: Hour,
-    n: usize,
-    entries: &[i64; ENTRIES],
-    work: &[i64],
-    row: &mut [i64; ROW],
-    side: &mut [i64; SIDE],
-)
-    requires fit { Fit u }
-    requires day { Day u margins.now orders.now charges costs.now }
-    requires k_le_hours { (k.0 ≤ u.hours.0) × (Slotted u l.0 n (length work.now)) }
-    requires entries { (Entries u (day_of margins.now orders.now charges costs.now) 0 entries.now)
-        × (Saved u (day_of margins.now orders.now charges costs.now) l.0 n 0 work.now) }
-    requires u_in_bounds { (cells_of u ≤ length row.old) × (length side.old ≡ side_length) }
-    ensures { Layer u (worth u (day_of margins.now orders.now charges
-        costs.now) k.0)
-        row.new side.new }
+pub fn layer_at(passed: &Passed<'_>, k: Hour, row: &mut [i64; ROW], side: &mut [i64; SIDE])
+    requires k_le_hours { k.0 ≤ passed.now.day.unit.hours.0 }
+    ensures { Layer passed.now.day.unit (worth passed.now.day.unit (tariffs passed.now.day) k.0) row.new side.new }
 {
-    let h = base_layer(u, k, l, n, work, row, side);
-    descend(u, charges, margins, orders, costs, h, k, entries, row, side);
+    let h = base_layer(passed, k, row, side);
+    descend(&passed.day, h, k, passed.entries, row, side);
 }

@@ -10,7 +10,8 @@ ghost use Rattle.model.specs.Printed.{read_text, printed_of, printing_of};
 ghost use Rattle.text.specs.Lines.{longest};
 ghost use Rattle.lines.specs.Puts.{Puts};
 
-use cases::{HOURS, INPUT, Plan, SHORT_WORK, Written};
+use cases::{HOURS, INPUT, SHORT_WORK};
+use quantities::Refusal;
 
 // How long an input may be.
 const MOST: usize = INPUT;
@@ -32,8 +33,8 @@ fn put_best(file: &[u8], work: &mut [i64], outputs: &mut [u16], out: &mut [u8; L
     let reading = codec::read(file);
     let case = reading.case;
     match best::schedule(reading, work, outputs) {
-        Plan::Found(profit) => lines::put_day(out, profit, case, outputs),
-        Plan::Refused(number) => lines::put_refused(out, number),
+        Ok(profit) => lines::put_day(out, profit, case, outputs),
+        Err(refusal) => lines::put_refused(out, refusal.0),
     }
 }
 
@@ -52,7 +53,7 @@ fn put_text(input: &[u8], out: &mut [u8; LONGEST]) -> usize
 
 // Writes the text of an input to the front of the lent bytes and returns its length; the bytes past it stay. Where
 // fewer are lent, 10, and every lent byte stays. No text is longer than LONGEST.
-pub fn print(input: &[u8], text: &mut [u8]) -> Written
+pub fn print(input: &[u8], text: &mut [u8]) -> Result<usize, Refusal>
     ensures value { result ≡ (printing_of input.now text.old).answer }
     ensures text_after { text.new ≡ (printing_of input.now text.old).lent }
     ensures input_len_bound { length (printed_of input.now) ≤ longest }
@@ -60,8 +61,8 @@ pub fn print(input: &[u8], text: &mut [u8]) -> Written
     let mut whole = [0u8; LONGEST];
     let n = put_text(input, &mut whole);
     if text.len() < n {
-        return Written::Refused(10);
+        return Err(Refusal(10));
     }
     lines::parts::put(text, 0, &whole[..n]);
-    Written::Bytes(n)
+    Ok(n)
 }

@@ -1,2 +1,3 @@
 -- Laws of what the crate writes.
+pub mod BytesLaws
 pub mod SectionsLaws

@@ -9,10 +9,11 @@ ghost use Rattle.std.proofs.lemmas.List.Edits.{sets};
 ghost use Rattle.cases.specs.Limits.{most_stages};
 ghost use Rattle.quantities.specs.Widths.{words};
 ghost use Rattle.cases.specs.Forms.{newest, entry_length, pairs_length};
-ghost use Rattle.cases.specs.Layout.{bytes, joined, no_output, unsigned, field_bytes, section_bytes, pair_bytes, bytes_of};
-ghost use Rattle.cases.specs.Refusals.{refusal_of};
+ghost use Rattle.cases.specs.Layout.{bytes, joined, no_output, unsigned, field_bytes, section_bytes};
+ghost use Rattle.cases.specs.Layout.{pair_bytes, bytes_of};
 
 use crate::numbers::{put_mills, put_word};
+use cases::admitted::Admitted;
 use cases::{
     Case, FORM, FORM_BYTES, HOUR_BYTES, PAIR_BYTES, SECTIONS, STAGE_BYTES, STAGES, UNIT_BYTES,
 };
@@ -24,6 +25,7 @@ const PAIRS_BYTES: usize = PAIR_BYTES * SECTIONS;
 const FRONT_BYTES: usize = PAIRS_BYTES + UNIT_BYTES;
 
 // Writes two bytes.
+#[tactic(auto, using(cases::proofs::SetsLaws::bytes_written))]
 fn put_bytes(out: &mut [u8], at: usize, a: u8, b: u8)
     requires { at + 2 ≤ length out.old }
     ensures { out.new ≡ sets out.old at (bytes 1 a ++ bytes 1 b) }
@@ -33,6 +35,7 @@ fn put_bytes(out: &mut [u8], at: usize, a: u8, b: u8)
 }
 
 // Writes two 16-bit numbers.
+#[tactic(auto, using(cases::proofs::SetsLaws::sets_both))]
 fn put_pair(out: &mut [u8], at: usize, a: u16, b: u16)
     requires { at + 4 ≤ length out.old }
     ensures { out.new ≡ sets out.old at (bytes 2 a ++ bytes 2 b) }
@@ -42,6 +45,7 @@ fn put_pair(out: &mut [u8], at: usize, a: u16, b: u16)
 }
 
 // Writes two costs.
+#[tactic(auto, using(cases::proofs::SetsLaws::sets_both))]
 fn put_costs(out: &mut [u8], at: usize, a: Mills, b: Mills)
     requires { at + 8 ≤ length out.old }
     ensures { out.new
@@ -61,11 +65,11 @@ fn put_place(out: &mut [u8], i: usize, offset: usize, size: usize)
 }
 
 // Writes the five pairs of a record within the limits.
-fn put_pairs(case: Case, out: &mut [u8])
-    requires case_value { refusal_of case ≡ 0 }
-    requires newest_in_bounds { pairs_length newest.1 ≤ length out.old }
-    ensures { out.new ≡ sets out.old 0 (pair_bytes case newest) }
+fn put_pairs(admitted: &Admitted, out: &mut [u8])
+    requires { pairs_length newest.1 ≤ length out.old }
+    ensures { out.new ≡ sets out.old 0 (pair_bytes admitted.now.case newest) }
 {
+    let case = &admitted.case;
     let rises = STAGE_BYTES * case.rises;
     let falls = STAGE_BYTES * case.falls;
     let hours = HOUR_BYTES * case.hours;
@@ -80,10 +84,10 @@ fn put_pairs(case: Case, out: &mut [u8])
 }
 
 // Writes the unit section.
-fn put_unit(case: Case, out: &mut [u8])
+fn put_unit(case: &Case, out: &mut [u8])
     requires { pairs_length newest.1 + entry_length newest.1 0 ≤ length out.old }
     ensures { out.new
-        ≡ sets out.old (pairs_length newest.1) (section_bytes case newest 0) }
+        ≡ sets out.old (pairs_length newest.1) (section_bytes case.now newest 0) }
 {
     put_pair(out, PAIRS_BYTES, case.capacity.0, case.minimum.0);
     put_pair(out, PAIRS_BYTES + 4, case.rampup.0, case.rampdown.0);
@@ -95,20 +99,18 @@ fn put_unit(case: Case, out: &mut [u8])
 }
 
 // Writes the first n outputs of a trajectory.
-fn put_stages(out: &mut [u8], at: usize, outputs: [Output; STAGES], n: usize)
+fn put_stages(out: &mut [u8], at: usize, outputs: &[Output; STAGES], n: usize)
     requires { (n ≤ most_stages) × (at + 2 * n ≤ length out.old) }
     ensures { out.new
-        ≡ sets out.old at (joined (λ k. field_bytes (2 ∷ []) ((get_or outputs k no_output).0 ∷ [])) n) }
+        ≡ sets out.old at (joined (λ k. field_bytes (2 ∷ []) ((get_or outputs.now k no_output).0 ∷ [])) n) }
 {
-    let mut i = 0;
-    while i < n {
-        let output = outputs[i];
-        put_word(out, at + STAGE_BYTES * i, output.0);
-        i += 1;
+    for i in 0..n {
+        put_word(out, at + STAGE_BYTES * i, outputs[i].0);
     }
 }
 
 // Writes an hour: its price and its order byte.
+#[tactic(auto, using(cases::proofs::SetsLaws::hour_written))]
 fn put_hour(out: &mut [u8], at: usize, price: Mills, order: u8)
     requires { at + 5 ≤ length out.old }
     ensures { out.new
@@ -119,27 +121,21 @@ fn put_hour(out: &mut [u8], at: usize, price: Mills, order: u8)
 }
 
 // Writes the hours of a record within the limits.
-fn put_hours(case: Case, out: &mut [u8], at: usize)
-    requires case_value { refusal_of case ≡ 0 }
-    requires hours_in_bounds { at + 5 * case.hours ≤ length out.old }
-    ensures { out.new ≡ sets out.old at (section_bytes case newest 3) }
+fn put_hours(admitted: &Admitted, out: &mut [u8], at: usize)
+    requires { at + 5 * admitted.now.case.hours ≤ length out.old }
+    ensures { out.new ≡ sets out.old at (section_bytes admitted.now.case newest 3) }
 {
-    let prices = case.prices;
-    let orders = case.orders;
-    let n = case.hours;
-    let mut i = 0;
-    while i < n {
-        let price = prices[i];
-        put_hour(out, at + HOUR_BYTES * i, price, orders[i]);
-        i += 1;
+    let case = &admitted.case;
+    for i in 0..case.hours {
+        put_hour(out, at + HOUR_BYTES * i, case.prices[i], case.orders[i]);
     }
 }
 
 // The length of the file of a record within the limits.
-pub fn file_length(case: Case) -> usize
-    requires { refusal_of case ≡ 0 }
-    ensures { result ≡ length (bytes_of case) }
+pub fn file_length(admitted: &Admitted) -> usize
+    ensures { result ≡ length (bytes_of admitted.now.case) }
 {
+    let case = &admitted.case;
     FRONT_BYTES
         + STAGE_BYTES * case.rises
         + STAGE_BYTES * case.falls
@@ -148,20 +144,18 @@ pub fn file_length(case: Case) -> usize
 }
 
 // Writes the file of a record within the limits.
-pub fn put_case(case: Case, out: &mut [u8])
-    requires case_value { refusal_of case ≡ 0 }
-    requires case_in_bounds { length (bytes_of case) ≤ length out.old }
-    ensures { out.new ≡ sets out.old 0 (bytes_of case) }
+pub fn put_case(admitted: &Admitted, out: &mut [u8])
+    requires { length (bytes_of admitted.now.case) ≤ length out.old }
+    ensures { out.new ≡ sets out.old 0 (bytes_of admitted.now.case) }
 {
-    let rise = case.rise;
-    let fall = case.fall;
+    let case = &admitted.case;
     let falls_at = FRONT_BYTES + STAGE_BYTES * case.rises;
     let hours_at = falls_at + STAGE_BYTES * case.falls;
     let form_at = hours_at + HOUR_BYTES * case.hours;
-    put_pairs(case, out);
+    put_pairs(admitted, out);
     put_unit(case, out);
-    put_stages(out, FRONT_BYTES, rise, case.rises);
-    put_stages(out, falls_at, fall, case.falls);
-    put_hours(case, out, hours_at);
+    put_stages(out, FRONT_BYTES, &case.rise, case.rises);
+    put_stages(out, falls_at, &case.fall, case.falls);
+    put_hours(admitted, out, hours_at);
     put_word(out, form_at, FORM);
 }

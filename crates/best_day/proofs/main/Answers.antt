@@ -7,14 +7,14 @@ use native.Mathlib.Omega.{arith}
 use borrow.Author.Tests.{ltb-true, ltb-false}
 use lib.Dec.{ltb}
 use lib.ListN.{length, length-take}
-use Rattle.cases.specs.declared.Written.{Written}
-use Rattle.cases.specs.declared.Written.TheVariants.{Bytes}
 use Rattle.model.specs.Printed.{printed_of, printing_of}
 use Rattle.model.proofs.PrintedLaws.{printing_of_short, printing_of_done}
 use Rattle.best_day.proofs.main.Goals as goal
+use Rattle.std.specs.Prelude.{Result, Ok}
+use Rattle.quantities.specs.declared.Refusal.{Refusal}
 
 -- bytes that were written are those of the text, and have room in the bytes that were lent
-written_le : (input lent : List ℕ) {w : Written} {n : ℕ} → w ≡ (printing_of input lent).answer → w ≡ Bytes n
+written_le : (input lent : List ℕ) {w : Result ℕ Refusal} {n : ℕ} → w ≡ (printing_of input lent).answer → w ≡ Ok n
     → n ≤ length lent
 written_le input lent {w} {n} a b = go (ltb (length lent) (length (printed_of input))) refl
   where
@@ -33,15 +33,15 @@ written_le input lent {w} {n} a b = go (ltb (length lent) (length (printed_of in
 
 pub slice_bounds-text-end : goal.slice_bounds-text-end
 slice_bounds-text-end c =
-    omega (arith, written_le _ _ c.print-written.ensures.value c.in-Bytes.is, c.print-written.auto.text)
+    omega (arith, written_le _ _ c.print.ensures.value c.in-Ok.is, c.print.auto.text)
 
 pub slice_bounds-write_all-end : goal.slice_bounds-write_all-end
 slice_bounds-write_all-end c =
-    let n = c.in-Bytes.length in
-    let left = c.print-written.new.text in
+    let n = c.in-Ok.length in
+    let left = c.print.new.text in
     omega (
       arith,
       length-take n left,
-      written_le _ _ c.print-written.ensures.value c.in-Bytes.is,
-      c.print-written.auto.text,
+      written_le _ _ c.print.ensures.value c.in-Ok.is,
+      c.print.auto.text,
     )

@@ -2,7 +2,8 @@
 -- Assumes nothing.
 use mathlib.Core.Path.{◌≡◌, ap, ◌∙◌, subst}
 use mathlib.Core.Option.{some}
-use Prim.Native.Nat.{ℕ, min}
+use Prim.Native.Nat.{ℕ, ◌+◌, ◌≤◌, ◌<◌, min}
+use borrow.Author.Rules.{rules}
 use Rattle.machine.specs.declared.State.{State}
 use Rattle.machine.specs.declared.Unit.{Unit}
 use Rattle.machine.specs.Moves.{idle, running, move}
@@ -13,25 +14,28 @@ use Rattle.choices.proofs.follow.Goals as goal
 moved : (u : Unit) (q : ℕ) {s x t : State} → s ≡ x → move u s q ≡ some t → move u x q ≡ some t
 moved u q {t = t} e m = subst (λ (x : State). move u x q ≡ some t) e m
 
-pub returns-then-q-eq0 : goal.returns-then-q-eq0
-returns-then-q-eq0 c =
+pub returns-then-eq : goal.returns-then-eq
+returns-then-eq c =
     let u = c.args.u in
     let q = c.args.q.0 in
-    λ t m. ap idle (c.least.ensures ∙ ap (λ (n : ℕ). min n u.mindown.0) c.next.ensures)
-    ∙ follow_stay u c.in-Off.d q t c.if-q-eq0.true (moved u q c.in-Off.is m)
+    let later : c.min.result.0 ≡ min (c.in-Off.d.0 + 1) u.mindown.0 = search rules in
+    let off : q ≡ 0 = search rules in
+    λ t m. ap idle later ∙ follow_stay u c.in-Off.d q t off (moved u q c.in-Off.is m)
 
-pub returns-then-u-q : goal.returns-then-u-q
-returns-then-u-q c =
+pub returns-then-le : goal.returns-then-le
+returns-then-le c =
     let u = c.args.u in
     let q = c.args.q.0 in
+    let on : u.minimum.0 ≤ q = search rules in
     λ t m. ap (running q) c.less.ensures
-    ∙ follow_run u c.in-Run.field-0 c.in-Run.j q t c.if-u-q.true (moved u q c.in-Run.is m)
+    ∙ follow_run u c.in-Run.field-0 c.in-Run.j q t on (moved u q c.in-Run.is m)
 
-pub returns-else-q-eq0 : goal.returns-else-q-eq0
-returns-else-q-eq0 c =
+pub returns-else-eq : goal.returns-else-eq
+returns-else-eq c =
     let u = c.args.u in
     let q = c.args.q.0 in
-    λ t m. c.risen_at.ensures ∙ follow_start u c.in-Off.d q t c.if-q-eq0.false (moved u q c.in-Off.is m)
+    let on : q ≡ 0 → ⊥ = search rules in
+    λ t m. c.risen_at.ensures ∙ follow_start u c.in-Off.d q t on (moved u q c.in-Off.is m)
 
 pub returns-in-Rise : goal.returns-in-Rise
 returns-in-Rise c =
@@ -39,12 +43,13 @@ returns-in-Rise c =
     let q = c.args.q.0 in
     λ t m. c.risen_at-in-Rise.ensures ∙ follow_rise u c.in-Rise.i q t (moved u q c.in-Rise.is m)
 
-pub returns-else-u-q : goal.returns-else-u-q
-returns-else-u-q c =
+pub returns-else-le : goal.returns-else-le
+returns-else-le c =
     let u = c.args.u in
     let q = c.args.q.0 in
+    let low : q < u.minimum.0 = search rules in
     λ t m. c.fallen_at.ensures
-    ∙ follow_leave u c.in-Run.field-0 c.in-Run.j q t c.if-u-q.false (moved u q c.in-Run.is m)
+    ∙ follow_leave u c.in-Run.field-0 c.in-Run.j q t low (moved u q c.in-Run.is m)
 
 pub returns-in-Fall : goal.returns-in-Fall
 returns-in-Fall c =

@@ -1,24 +1,24 @@
--- The answer of the comparison decides the part. Assumes nothing.
+-- The answer of the comparison decides the part.
 use Rattle.model.specs.Compared.{part_of}
 use Rattle.model.proofs.BetterLaws.{better_of_by}
 use Rattle.offers.proofs.better.Goals as goal
 
-pub returns-in-First : goal.returns-in-First
-returns-in-First c =
+pub returns-in-Ok-First : goal.returns-in-Ok-First
+returns-in-Ok-First c =
     better_of_by c.args.reading.outcome c.args.reading.case (part_of c.args.first) (part_of c.args.second)
-    c.in-First.ensures
+    (rw c.in-Ok-First.field-0-is at c.in-Ok-First.ensures)
 
-pub returns-in-Second : goal.returns-in-Second
-returns-in-Second c =
+pub returns-in-Ok-Second : goal.returns-in-Ok-Second
+returns-in-Ok-Second c =
     better_of_by c.args.reading.outcome c.args.reading.case (part_of c.args.first) (part_of c.args.second)
-    c.in-Second.ensures
+    (rw c.in-Ok-Second.field-0-is at c.in-Ok-Second.ensures)
 
-pub returns-in-Neither : goal.returns-in-Neither
-returns-in-Neither c =
+pub returns-in-Ok-Neither : goal.returns-in-Ok-Neither
+returns-in-Ok-Neither c =
     better_of_by c.args.reading.outcome c.args.reading.case (part_of c.args.first) (part_of c.args.second)
-    c.in-Neither.ensures
+    (rw c.in-Ok-Neither.field-0-is at c.in-Ok-Neither.ensures)
 
-pub returns-in-Refused : goal.returns-in-Refused
-returns-in-Refused c =
+pub returns-in-Err : goal.returns-in-Err
+returns-in-Err c =
     better_of_by c.args.reading.outcome c.args.reading.case (part_of c.args.first) (part_of c.args.second)
-    c.in-Refused.ensures
+    c.in-Err.ensures

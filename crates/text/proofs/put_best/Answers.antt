@@ -37,43 +37,43 @@ day_length case limits l below v fits =
 pub put_day-requires-clause-hours_in_bounds : goal.put_day-requires-clause-hours_in_bounds
 put_day-requires-clause-hours_in_bounds c =
     let limits = limits_found c.args.file.now c.args.work.now c.args.outputs.now c.requires.0 c.requires.1
-    c.read-reading.ensures c.schedule.ensures.answer c.schedule.ensures.outputs c.in-Found.is in
+    c.read-reading.ensures c.schedule.ensures.answer c.schedule.ensures.outputs c.in-Ok.is in
     (omega (arith, limits.hours_le, c.requires.1, c.schedule.auto.outputs), limits.hours_le)
 
 pub put_day-requires-clause-hours_in_bounds_2 : goal.put_day-requires-clause-hours_in_bounds_2
 put_day-requires-clause-hours_in_bounds_2 c =
     let limits = limits_found c.args.file.now c.args.work.now c.args.outputs.now c.requires.0 c.requires.1
-    c.read-reading.ensures c.schedule.ensures.answer c.schedule.ensures.outputs c.in-Found.is in
+    c.read-reading.ensures c.schedule.ensures.answer c.schedule.ensures.outputs c.in-Ok.is in
     omega (
       arith,
       day_length c.read-reading.result.case limits c.schedule.new.outputs (λ i. (c.slice_known-2-1.given i).fits)
-          c.in-Found.profit.0 (search rules),
+          c.in-Ok.profit.0 (search rules),
     )
 
 pub put_refused-requires : goal.put_refused-requires
-put_refused-requires c = omega (arith, length_refused_line c.in-Refused.number (search rules))
+put_refused-requires c = omega (arith, length_refused_line c.in-Err.refusal.0 (search rules))
 
-pub returns-in-Found-clause-puts : goal.returns-in-Found-clause-puts
-returns-in-Found-clause-puts c =
+pub returns-in-Ok-clause-puts : goal.returns-in-Ok-clause-puts
+returns-in-Ok-clause-puts c =
     rw (told_found c.args.file.now c.args.work.now c.args.outputs.now c.requires.0 c.requires.1
-    c.read-reading.ensures c.schedule.ensures.answer c.schedule.ensures.outputs c.in-Found.is) c.put_day.ensures
+    c.read-reading.ensures c.schedule.ensures.answer c.schedule.ensures.outputs c.in-Ok.is) c.put_day.ensures
 
-pub returns-in-Found-clause-upper_bound : goal.returns-in-Found-clause-upper_bound
-returns-in-Found-clause-upper_bound c =
+pub returns-in-Ok-clause-upper_bound : goal.returns-in-Ok-clause-upper_bound
+returns-in-Ok-clause-upper_bound c =
     let limits = limits_found c.args.file.now c.args.work.now c.args.outputs.now c.requires.0 c.requires.1
-    c.read-reading.ensures c.schedule.ensures.answer c.schedule.ensures.outputs c.in-Found.is in
+    c.read-reading.ensures c.schedule.ensures.answer c.schedule.ensures.outputs c.in-Ok.is in
     omega (
       arith,
       c.put_day.ensures.place,
       day_length c.read-reading.result.case limits c.schedule.new.outputs (λ i. (c.slice_known-2-1.given i).fits)
-          c.in-Found.profit.0 (search rules),
+          c.in-Ok.profit.0 (search rules),
     )
 
-pub returns-in-Refused-clause-puts : goal.returns-in-Refused-clause-puts
-returns-in-Refused-clause-puts c =
+pub returns-in-Err-clause-puts : goal.returns-in-Err-clause-puts
+returns-in-Err-clause-puts c =
     rw (told_refused c.args.file.now c.args.work.now c.args.outputs.now c.requires.0 c.requires.1
-    c.read-reading.ensures c.schedule.ensures.answer c.schedule.ensures.outputs c.in-Refused.is) c.put_refused.ensures
+    c.read-reading.ensures c.schedule.ensures.answer c.schedule.ensures.outputs c.in-Err.is) c.put_refused.ensures
 
-pub returns-in-Refused-clause-upper_bound : goal.returns-in-Refused-clause-upper_bound
-returns-in-Refused-clause-upper_bound c =
-    omega (arith, c.put_refused.ensures.place, length_refused_line c.in-Refused.number (search rules))
+pub returns-in-Err-clause-upper_bound : goal.returns-in-Err-clause-upper_bound
+returns-in-Err-clause-upper_bound c =
+    omega (arith, c.put_refused.ensures.place, length_refused_line c.in-Err.refusal.0 (search rules))

@@ -1,0 +1,2 @@
+-- Laws of what reading, admitting and writing answer and leave, in the sets that their proofs take.
+pub mod ReadsLaws

@@ -1,0 +1,42 @@
+-- What a read puts after the bytes so far is what it takes from the input. Assumes nothing.
+use Rattle.std.proofs.Common.{◌≡◌, ℕ, ◌+◌, ◌-◌, ◌≤◌, List, ◌++◌, rules, arith, length, take, slice_range, sym, ap}
+use Rattle.std.proofs.Common.{◌∙◌, subst}
+use Rattle.std.proofs.Common.{le_refl, drop_at, length-take-le}
+use Rattle.std.proofs.lemmas.Slice.{take-put_mid_below}
+use Rattle.std.specs.Io.KnownBytes.{Consumes}
+use Rattle.std.proofs.KnownBytes.{Consumes-trans}
+use borrow.Rule.Slice.PartMut.{put_mid, post_of}
+use lib.Seq.{take-add, take-append-le}
+use Rattle.input.proofs.read_full.Goals as goal
+
+-- the bytes up to a, which stayed, and those from a to b are those up to b
+take_split : (a b : ℕ) (old new : List ℕ) → a ≤ b → take a new ≡ take a old
+    → take a old ++ slice_range new a b ≡ take b new
+take_split a b old new h front =
+    let same : a + (b - a) ≡ b = omega arith in
+    ap (λ l. l ++ slice_range new a b) (sym front) ∙ sym (take-add a (b - a) new) ∙ ap (λ n. take n new) same
+
+-- the first n bytes of a part that was put at a
+slice_range-put_mid : (a k n : ℕ) (xs ys : List ℕ) → a ≤ length xs → n ≤ length ys
+    → slice_range (put_mid a k xs ys) a (a + n) ≡ take n ys
+slice_range-put_mid a k n xs ys within fits =
+    let same : (a + n) - a ≡ n = omega arith in
+    let after = post_of a k xs in
+    ap (take ((a + n) - a)) (drop_at (take a xs) (ys ++ after) a (length-take-le a xs within))
+    ∙ ap (λ m. take m (ys ++ after)) same
+    ∙ take-append-le n ys after fits
+
+pub loop-done-preserved : goal.loop-done-preserved
+loop-done-preserved g c =
+    let l = c.loop-done in
+    let room = length l.bytes - l.done in
+    let part = slice_range-put_mid l.done room c.in_ok-n.n l.bytes c.read.new.buf l.invariant.within
+    c.in_ok-n.ensures.bound.0 in
+    let joined = take_split l.done (l.done + c.in_ok-n.n) l.bytes (put_mid l.done room l.bytes c.read.new.buf)
+    (omega arith) (take-put_mid_below _ _ _ _ _ (le_refl _) l.invariant.within) in
+    record {
+      within = search rules;
+      long = search rules;
+      read = subst (Consumes _ _) (ap (λ t. take l.done l.bytes ++ t) (sym part) ∙ joined)
+          (Consumes-trans _ _ _ _ _ l.invariant.read c.in_ok-n.ensures.bytes.0);
+    }

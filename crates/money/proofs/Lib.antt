@@ -1,0 +1,2 @@
+-- Laws of amounts.
+pub mod OrderLaws
