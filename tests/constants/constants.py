@@ -20,7 +20,7 @@ VIEWS = tuple(f"{crate}/specs/Promises.antt" for crate in ("curve", "cases", "da
 VIEWS += ("cases/specs/Published.antt", "day/specs/Words.antt", "model/specs/Windows.antt", "promises/specs/Days.antt")
 VIEWS += ("promises/proofs/Days.antt", "known_days/src/main.rt")
 # what stands for something else: the number of a refusal, the size of a 64-bit number
-NUMBERED = {"laws/proofs/Magnitude.antt": ["2 ^ 63"]}
+NUMBERED = {"laws/proofs/Magnitude.antt": ["2 ^ 63"], "limits/proofs/FirstLaws.antt": ["≡ 7", "≡ 8"]}
 
 # hours, megawatts, working numbers, bytes, mills, energies; sizes of the search, of the check and of the text
 ALWAYS = [25, 48, 49, 56, 63, 64, 144, 400, 796, 2800, 4096, 4097, 6400, 8192, 8784, 10000, 65535, 65536]

@@ -31,8 +31,6 @@ STARTED |= {"__errno_location", "__xpg_strerror_r"}
 
 # quotients and remainders of the code, by crate
 KEPT = {
-    # by a power of two
-    "writer": {"x % 256", "x / 256", "x % WORDS", "x / WORDS"},
     # by ten: the digits that the program prints, which the library does not
     "lines": {"n % 10", "n / 10"},
     # of two constants, before anything runs

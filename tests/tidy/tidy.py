@@ -28,7 +28,7 @@ UNCITED = ("Proof.antt", "Answers.antt", "Invariants.antt", "Promises.antt")
 BESIDE = ("add_mono", "add_cancel")
 
 # what ends a word
-EDGE = r"[\s(){}\[\];,.λ:]"
+EDGE = r"[\s(){}\[\];,.λ:<>&]"
 
 
 def speaks(text, name):
