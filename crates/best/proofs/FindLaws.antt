@@ -26,7 +26,7 @@ use Rattle.machine.proofs.Bridge.FitLaws.{fit_of_limits, fair_of_limits}
 use Rattle.machine.proofs.Bridge.Bests.{worth_profit, worth_none, plan_at_best, length_plan_at, best_early}
 use Rattle.cells.specs.Table.{Found}
 use Rattle.best.specs.Searched.{searched_by}
-use Rattle.quantities.specs.Outcomes.{Refused}
+use Rattle.cases.specs.Reads.{Refused}
 use Rattle.std.specs.Prelude.{Ok}
 
 -- a worth of a day is above the code of none

@@ -31,7 +31,7 @@ use Rattle.cases.proofs.LayoutLaws.{take_bytes, drop_bytes, bytes_number_at, num
 use Rattle.cases.proofs.LayoutLaws.{joined_same, joined_prefix}
 use Rattle.cases.proofs.FormsLaws.{old_front, front, unknown_false, form_of_new, unsigned_signed}
 use Rattle.cases.proofs.FieldsLaws.{Matches, entries_read}
-use Rattle.quantities.specs.Outcomes.{Accepted, Refused}
+use Rattle.cases.specs.Reads.{Accepted, Refused}
 
 -- its sections follow one another to its end
 pub record Linked (f : Form) (file : List ℕ) : Type 0 where

@@ -14,7 +14,7 @@ use Rattle.cases.specs.Refusals.{refusal1, refusal2_file, refusal12, first_of, f
 use Rattle.cases.specs.Reads.{reading_of, read_of, admit_of, write_of}
 use Rattle.cases.proofs.RefusalsLaws.{first_of_tests}
 use Rattle.cases.proofs.SetsLaws.{sets_front}
-use Rattle.quantities.specs.Outcomes.{Accepted, Refused}
+use Rattle.cases.specs.Reads.{Accepted, Refused}
 use Rattle.quantities.specs.declared.Refusal.{Refusal}
 use Rattle.std.specs.Prelude.{Ok, Err}
 

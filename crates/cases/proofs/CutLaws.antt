@@ -25,7 +25,7 @@ use Rattle.cases.proofs.LayoutLaws.{length_padded, get_d_padded_in, padded_same,
 use Rattle.cases.proofs.FormsLaws.{Known, four_sections, known}
 use Rattle.cases.proofs.AcceptedLaws.{Whole, read_accepted}
 use Rattle.cases.proofs.CodecLaws.{reading_of_refused, admit_of_accepted, admit_of_refused}
-use Rattle.quantities.specs.Outcomes.{Accepted, Refused}
+use Rattle.cases.specs.Reads.{Accepted, Refused}
 
 -- ---- arrays
 module _ {X : Type 0} (d : X) (l : List X) (n size : ℕ) (held : n ≤ length l) (room : n ≤ size) where

@@ -35,7 +35,7 @@ use Rattle.cases.proofs.FormsLaws.{signed_unsigned}
 use Rattle.cases.proofs.FieldsLaws.{field_at_entry, field_at_past}
 use Rattle.cases.proofs.WrittenLaws.{sections_from, length_file_of, offset_written, length_written}
 use Rattle.cases.proofs.WrittenLaws.{section_written, entries_written, entry_written}
-use Rattle.quantities.specs.Outcomes.{Accepted}
+use Rattle.cases.specs.Reads.{Accepted}
 
 abbrev output : ℕ → Output
 output n = record { 0 = n }

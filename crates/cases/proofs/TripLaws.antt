@@ -28,7 +28,7 @@ use Rattle.cases.proofs.CutLaws.{zeroed_case_of}
 use Rattle.cases.proofs.SameLimitsLaws.{signed_unique}
 use Rattle.cases.proofs.PublishedLaws.{offset_word, last_bytes}
 use Rattle.cases.proofs.HoldsLaws.{holds_bytes_of, read_holds}
-use Rattle.quantities.specs.Outcomes.{Accepted, Refused}
+use Rattle.cases.specs.Reads.{Accepted, Refused}
 use Rattle.std.specs.Prelude.{Ok}
 
 -- a file in front of the lent bytes, and nothing written

@@ -21,7 +21,7 @@ use Rattle.cases.proofs.CutLaws.{read_of_accepted}
 use Rattle.cases.proofs.HoldsLaws.{read_holds}
 use Rattle.cases.proofs.FileLimitsLaws.{file_limits}
 use Rattle.cases.proofs.WorkLaws.{work_short}
-use Rattle.quantities.specs.Outcomes.{Accepted}
+use Rattle.cases.specs.Reads.{Accepted}
 
 -- limits that are kept are kept with other bounds that the record's hours and minimum times do not pass
 moved_counts : {hours more : ℕ} {c : Case} → (c.hours ≤ hours → c.hours ≤ more) → CountsTo hours c

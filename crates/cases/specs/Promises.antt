@@ -11,7 +11,7 @@ use Rattle.cases.specs.Reads.{Writing, read_of, admit_of, write_of}
 use Rattle.cases.specs.Reads.{outcome_number, written_numbers}
 use Rattle.cases.specs.Published.{Limited, FirstRefused, record_order, file_order, word, Holds, FileLimited}
 use Rattle.cases.specs.Published.{LimitedBefore, NoLonger, FileLimitedBefore, WorksIn, Zeroed, AllZero, Stored}
-use Rattle.quantities.specs.Outcomes.{Accepted, Refused}
+use Rattle.cases.specs.Reads.{Accepted, Refused}
 
 -- a reading is refused by n, beside a record of zeros
 pub record ReadsNone (n : ℕ) (r : Reading) : Type 0 where

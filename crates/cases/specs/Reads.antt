@@ -1,13 +1,27 @@
 -- What `read`, `admit` and `write` answer and leave in lent memory, for every input (document 01, "Refusal list"), and
 -- the papers' number and values of each answer. Definitions only. Assumes nothing.
-use Rattle.std.specs.Prelude.{cond, List, [], ◌∷◌, ◌++◌, ℕ, ltb, eqb, length, drop, Result, Ok, Err}
+use Rattle.std.specs.Prelude.{cond, List, [], ◌∷◌, ◌++◌, ℕ, ltb, eqb, length, drop, Result, Ok, Err, ⊤}
 use Rattle.cases.specs.declared.Case.{Case}
 use Rattle.cases.specs.declared.Reading.{Reading}
 use Rattle.cases.specs.Layout.{blank, bytes_of, zeroed, case_of}
 use Rattle.cases.specs.Refusals.{first_of, tests, file_tests}
 use Rattle.cases.specs.Refusals.{refusal_of}
-use Rattle.quantities.specs.Outcomes.{Accepted, Outcome, Refused}
 use Rattle.quantities.specs.declared.Refusal.{Refusal}
+
+-- ---- what may be refused
+
+-- an outcome is nothing more than accepted, or refused by a number
+abbrev pub Outcome : Type 0
+Outcome = Result ⊤ Refusal
+
+abbrev pub Accepted : Outcome
+Accepted = Ok tt
+
+-- an answer refused by number n
+abbrev pub Refused : {A : Type 0} → ℕ → Result A Refusal
+Refused n = Err (record { 0 = n })
+
+-- ---- what the calls answer and leave
 
 -- refused by number n with the record of zeros, or, where n is 0, accepted with the record c
 unfoldable pub reading_of : ℕ → Case → Reading

@@ -3,7 +3,7 @@
 use Rattle.std.proofs.Common.{◌≡◌, ◌≢◌, sym, ap, ℕ, ◌≤◌, ◌<◌, List, length}
 use Rattle.std.specs.Prelude.{Ok}
 use Rattle.std.proofs.lemmas.List.Edits.{sets}
-use Rattle.quantities.specs.Outcomes.{Refused}
+use Rattle.cases.specs.Reads.{Refused}
 use Rattle.cases.specs.declared.Case.{Case}
 use Rattle.cases.specs.Layout.{bytes_of}
 use Rattle.cases.specs.Refusals.{refusal_of}

@@ -15,7 +15,7 @@ use Rattle.curve.specs.declared.Kind.TheVariants.{Flat, Straight, Curved}
 use Rattle.curve.specs.declared.Curve.{Curve}
 use Rattle.curve.specs.Cost.{costs_length, whole, record_of, accepted, tabled, answer_of, lent_after, supplied_of}
 use Rattle.curve.specs.Promises.{kind_number, Holds}
-use Rattle.quantities.specs.Outcomes.{Accepted, Refused}
+use Rattle.curve.specs.Cost.{done, refused}
 use Rattle.std.specs.Prelude.{Some, None}
 
 pub not_to_false : (a : Bool) → T (not a) → a ≡ false
@@ -80,19 +80,19 @@ module _ (k : Kind) (lent : List ℤ) where
   abbrev fit : Bool
   fit = accepted (record_of k)
 
-  pub answers_16 : fit ≡ false → (answer_of k lent ≡ Refused 16) × (lent_after k lent ≡ lent)
+  pub answers_16 : fit ≡ false → (answer_of k lent ≡ refused 16) × (lent_after k lent ≡ lent)
   answers_16 e = (
-    picks_third fit long Accepted (Refused 10) (Refused 16) e,
+    picks_third fit long done (refused 10) (refused 16) e,
     picks_third fit long (tabled k lent) lent lent e,
   )
 
-  pub answers_10 : fit ≡ true → length lent < costs_length → (answer_of k lent ≡ Refused 10) × (lent_after k lent ≡ lent)
+  pub answers_10 : fit ≡ true → length lent < costs_length → (answer_of k lent ≡ refused 10) × (lent_after k lent ≡ lent)
   answers_10 e h =
       let f = lt-leb costs_length (length lent) h in
-      (picks_second fit long Accepted (Refused 10) (Refused 16) e f, picks_second fit long (tabled k lent) lent lent e f)
+      (picks_second fit long done (refused 10) (refused 16) e f, picks_second fit long (tabled k lent) lent lent e f)
 
   pub answers_done : fit ≡ true → costs_length ≤ length lent
-      → (answer_of k lent ≡ Accepted) × (lent_after k lent ≡ tabled k lent)
+      → (answer_of k lent ≡ done) × (lent_after k lent ≡ tabled k lent)
   answers_done e h =
       let f = le-leb costs_length (length lent) h in
-      (picks_first fit long Accepted (Refused 10) (Refused 16) e f, picks_first fit long (tabled k lent) lent lent e f)
+      (picks_first fit long done (refused 10) (refused 16) e f, picks_first fit long (tabled k lent) lent lent e f)

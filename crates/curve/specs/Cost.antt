@@ -1,14 +1,14 @@
 -- The boiler maker's cost curve (request F-7): what an hour costs, in half-mills, at n half-megawatt-hours. Each
 -- operation is IEEE 754's on binary64, rounded once (the kit's lib.Ieee). Definitions only. Assumes nothing.
 use Rattle.std.specs.Prelude.{Bool, ◌&&◌, cond, List, [], ◌∷◌, ◌++◌, ℕ, zero, suc, ◌+◌, ◌*◌, ℤ, pos, T, leb, length}
-use Rattle.std.specs.Prelude.{drop, Float, Option, Some, None}
+use Rattle.std.specs.Prelude.{drop, Float, Option, Some, None, Result, Ok, Err, ⊤}
 use Rattle.std.specs.Float.{binary64}
 use Rattle.std.specs.Float.Ieee.{add, mul, le, eq, fits, of_int, to_bits}
 use Rattle.curve.specs.declared.Kind.{Kind}
 use Rattle.curve.specs.declared.Kind.TheVariants.{Flat, Straight, Curved}
 use Rattle.curve.specs.declared.Curve.{Curve}
 use Rattle.curve.specs.Pattern.{whole_of}
-use Rattle.quantities.specs.Outcomes.{Accepted, Outcome, Refused}
+use Rattle.quantities.specs.declared.Refusal.{Refusal}
 
 -- half-megawatt-hours: the energy of an hour, at the most
 abbrev pub most_energy : ℕ
@@ -89,10 +89,15 @@ table_of k = firsts costs_length (entry_of k)
 abbrev pub tabled : Kind → List ℤ → List ℤ
 tabled k lent = table_of k ++ drop costs_length lent
 
--- what filling lent numbers answers: 16, then 10 where there are too few of them
-abbrev pub answer_of : Kind → List ℤ → Outcome
-answer_of k lent =
-    cond (accepted (record_of k)) (cond (leb costs_length (length lent)) Accepted (Refused 10)) (Refused 16)
+-- what filling lent numbers answers: done, or refused by 16, then by 10 where there are too few of them
+abbrev pub done : Result ⊤ Refusal
+done = Ok tt
+
+abbrev pub refused : ℕ → Result ⊤ Refusal
+refused n = Err (record { 0 = n })
+
+abbrev pub answer_of : Kind → List ℤ → Result ⊤ Refusal
+answer_of k lent = cond (accepted (record_of k)) (cond (leb costs_length (length lent)) done (refused 10)) (refused 16)
 
 -- the lent numbers after it; a refusal leaves them
 abbrev pub lent_after : Kind → List ℤ → List ℤ

@@ -11,7 +11,7 @@ use Rattle.curve.specs.declared.Curve.{Curve}
 use Rattle.curve.specs.Pattern.{scale, field_of, units_of}
 use Rattle.curve.specs.Cost.{whole, allowed, record_of, curved_of, accepted, Usable, pattern_of, entry_of, table_of}
 use Rattle.curve.specs.Cost.{tabled, answer_of, lent_after, supplied_of}
-use Rattle.quantities.specs.Outcomes.{Accepted, Refused}
+use Rattle.curve.specs.Cost.{done, refused}
 
 -- b is the pattern of a number, finite and not below zero; minus zero counts as zero
 pub record Number (b : ℕ) : Type 0 where
@@ -94,11 +94,11 @@ pub record Promises : Type 0 where
   -- ---- the table in lent numbers
   -- 16 first, then 10 for less than 801 numbers, both of which leave them; else the table is filled
   pub sixteen : (k : Kind) (lent : List ℤ) → T (not (accepted (record_of k)))
-      → (answer_of k lent ≡ Refused 16) × (lent_after k lent ≡ lent)
+      → (answer_of k lent ≡ refused 16) × (lent_after k lent ≡ lent)
   pub ten : (k : Kind) (lent : List ℤ) → T (accepted (record_of k)) → length lent < 801
-      → (answer_of k lent ≡ Refused 10) × (lent_after k lent ≡ lent)
+      → (answer_of k lent ≡ refused 10) × (lent_after k lent ≡ lent)
   pub filled : (k : Kind) (lent : List ℤ) → T (accepted (record_of k)) → 801 ≤ length lent
-      → (answer_of k lent ≡ Accepted) × (lent_after k lent ≡ tabled k lent)
+      → (answer_of k lent ≡ done) × (lent_after k lent ≡ tabled k lent)
   -- it has 801 entries; an entry stands at its place, and the numbers after the table are as lent
   pub entries : (k : Kind) → length (table_of k) ≡ 801
   pub stands : (k : Kind) (lent : List ℤ) (n : ℕ) → n ≤ 800 → get_or (tabled k lent) n (pos 0) ≡ pos (entry_of k n)

@@ -18,7 +18,7 @@ use Rattle.model.proofs.CurvesLaws.{check_by_curve_of_sixteen, check_by_curve_of
 use Rattle.model.proofs.CurvesLaws.{schedule_by_curve_of_sixteen, schedule_by_curve_of_refused}
 use Rattle.model.proofs.CurvesLaws.{schedule_by_curve_of_outside}
 use Rattle.curves.specs.Entered.{read_of, entered_of}
-use Rattle.quantities.specs.Outcomes.{Accepted, Outcome, Refused}
+use Rattle.cases.specs.Reads.{Accepted, Outcome, Refused}
 use Rattle.std.specs.Prelude.{Err, Ok}
 
 abbrev stands : Outcome → Bool

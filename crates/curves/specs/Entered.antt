@@ -4,7 +4,7 @@ use Rattle.curve.specs.declared.Curve.{Curve}
 use Rattle.curve.specs.Cost.{accepted}
 use Rattle.cases.specs.declared.Case.{Case}
 use Rattle.cases.specs.Refusals.{refusal_of}
-use Rattle.quantities.specs.Outcomes.{Accepted, Outcome, Refused}
+use Rattle.cases.specs.Reads.{Accepted, Outcome, Refused}
 
 -- a reading with the tests of its record
 abbrev pub read_of : Outcome → Case → Outcome

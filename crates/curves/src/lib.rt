@@ -7,7 +7,7 @@ mod list;
 mod split;
 
 ghost use Rattle.std.specs.Prelude.{◌≡◌, Ok, Err, IfOk, IfErr, ◌≤◌, length};
-ghost use Rattle.quantities.specs.Outcomes.{Accepted};
+ghost use Rattle.cases.specs.Reads.{Accepted};
 ghost use Rattle.curve.specs.declared.Kind.{Kind};
 ghost use Rattle.curve.specs.Cost.{Usable, table_of};
 ghost use Rattle.day.specs.Rules.{breach};

@@ -17,7 +17,7 @@ use Rattle.giqapsun.specs.declared.GiqapsunWritten.{GiqapsunWritten}
 use Rattle.giqapsun.specs.declared.GiqapsunVerdict.{GiqapsunVerdict}
 use Rattle.giqapsun.specs.declared.GiqapsunPlan.{GiqapsunPlan}
 use Rattle.giqapsun.specs.declared.GiqapsunChoice.{GiqapsunChoice}
-use Rattle.quantities.specs.Outcomes.{Accepted, Refused}
+use Rattle.cases.specs.Reads.{Accepted, Refused}
 use Rattle.quantities.specs.declared.Refusal.{Refusal}
 use Rattle.quantities.specs.declared.HalfMills.{HalfMills}
 

@@ -4,7 +4,7 @@
 #![tactic(auto)]
 
 ghost use Rattle.std.specs.Prelude.{◌≡◌};
-ghost use Rattle.quantities.specs.Outcomes.{Accepted};
+ghost use Rattle.cases.specs.Reads.{Accepted};
 ghost use Rattle.cases.specs.Refusals.{work_length};
 ghost use Rattle.cases.specs.Reads.{outcome_number, read_of, write_of};
 ghost use Rattle.model.specs.Answers.{check_of, schedule_of};

@@ -20,7 +20,7 @@ use Rattle.model.specs.Promises.{HandsBack, one, two, empty, EitherWay}
 use Rattle.day.proofs.KeepsLaws.{kept_length}
 use Rattle.model.proofs.LeadsLaws.{leads_behind}
 use Rattle.model.proofs.ComparedLaws.{fails, Settled, first, second, neither, short, settled, compared_of_outside}
-use Rattle.quantities.specs.Outcomes.{Accepted, Outcome, Refused}
+use Rattle.cases.specs.Reads.{Accepted, Outcome, Refused}
 use Rattle.std.specs.Prelude.{Result, Ok, Err}
 use Rattle.quantities.specs.declared.Refusal.{Refusal}
 

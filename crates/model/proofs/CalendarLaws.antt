@@ -24,7 +24,7 @@ use Rattle.model.proofs.ScheduleLaws.{unplanned, schedule_of_refused}
 use Rattle.model.proofs.AnswersLaws.{refused_finds, schedule_zeroed}
 use Rattle.model.proofs.YearLaws.{clash, filled_given}
 use Rattle.quantities.specs.declared.Refusal.{Refusal}
-use Rattle.quantities.specs.Outcomes.{Accepted, Outcome, Refused}
+use Rattle.cases.specs.Reads.{Accepted, Outcome, Refused}
 use Rattle.std.specs.Prelude.{Err}
 
 -- the orders of the day alone matter to the search

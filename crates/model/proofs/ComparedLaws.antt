@@ -33,7 +33,7 @@ use Rattle.model.proofs.AnswersLaws.{check_zeroed}
 use Rattle.cases.proofs.ZeroedLaws.{counted}
 use Rattle.day.proofs.SameDayLaws.{profit_of_zeroed}
 use Rattle.model.proofs.VerdictLaws.{Judged, passing, breaking, unfit, verdict}
-use Rattle.quantities.specs.Outcomes.{Accepted, Outcome, Refused}
+use Rattle.cases.specs.Reads.{Accepted, Outcome, Refused}
 use Rattle.std.specs.Prelude.{Result, Ok}
 use Rattle.quantities.specs.declared.Refusal.{Refusal}
 

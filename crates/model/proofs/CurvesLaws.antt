@@ -34,7 +34,7 @@ use Rattle.cases.proofs.RefusalsLaws.{first_of_tests, tests_within}
 use Rattle.model.proofs.BestLaws.{best_by_some, best_by_none, none_of_best_by}
 use Rattle.model.proofs.AnswersLaws.{keeps_of_passing, refused_finds, planned_list, planned_none}
 use Rattle.model.proofs.AnswersLaws.{none_of_planned}
-use Rattle.quantities.specs.Outcomes.{Accepted, Outcome, Refused}
+use Rattle.cases.specs.Reads.{Accepted, Outcome, Refused}
 use Rattle.std.specs.Prelude.{Result, Ok}
 use Rattle.quantities.specs.declared.Refusal.{Refusal}
 

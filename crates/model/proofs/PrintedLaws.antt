@@ -37,7 +37,7 @@ use Rattle.cases.proofs.SetsLaws.{sets_front}
 use Rattle.model.proofs.BestLaws.{best_of_best_day}
 use Rattle.cases.proofs.AcceptedLaws.{read_limits}
 use Rattle.model.proofs.ScheduleLaws.{schedule_of_work, schedule_of_planned}
-use Rattle.quantities.specs.Outcomes.{Accepted, Outcome, Refused}
+use Rattle.cases.specs.Reads.{Accepted, Outcome, Refused}
 use Rattle.std.specs.Prelude.{Result, Ok, Err}
 use Rattle.quantities.specs.declared.Refusal.{Refusal}
 

@@ -19,7 +19,7 @@ use Rattle.cases.specs.Refusals.{refusal_of}
 use Rattle.model.specs.Answers.{judged, check_of}
 use Rattle.day.proofs.KeepsLaws.{kept_length, kept_none, kept_of_none}
 use Rattle.model.proofs.CheckLaws.{check_of_outside, check_of_length, check_of_judged}
-use Rattle.quantities.specs.Outcomes.{Accepted, Outcome, Refused}
+use Rattle.cases.specs.Reads.{Accepted, Outcome, Refused}
 use Rattle.std.specs.Prelude.{Result, Ok, Err}
 use Rattle.quantities.specs.declared.Refusal.{Refusal}
 

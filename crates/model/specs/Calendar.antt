@@ -9,7 +9,7 @@ use Rattle.cases.specs.Symbols.{every, before, last}
 use Rattle.cases.specs.Layout.{padded, with_arrays}
 use Rattle.cases.specs.Refusals.{within, first_of, tests}
 use Rattle.model.specs.Answers.{Scheduling, schedule_of}
-use Rattle.quantities.specs.Outcomes.{Outcome, Refused}
+use Rattle.cases.specs.Reads.{Outcome, Refused}
 
 -- A list has two numbers for each window, its first hour and how many hours it has. Windows are whole, none is empty or
 -- ends past the year, and each begins at hour `from` or later, which is where the one before it ends

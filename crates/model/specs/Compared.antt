@@ -10,7 +10,7 @@ use Rattle.cases.specs.declared.Comparison.TheVariants.{First, Second, Neither}
 use Rattle.day.specs.Profit.{profit_of}
 use Rattle.model.specs.Best.{leads}
 use Rattle.model.specs.Answers.{check_of}
-use Rattle.quantities.specs.Outcomes.{Outcome}
+use Rattle.cases.specs.Reads.{Outcome}
 use Rattle.quantities.specs.declared.Refusal.{Refusal}
 
 -- two lists by their verdicts: a refusal of either; else one that passes before one that does not; of two that pass the

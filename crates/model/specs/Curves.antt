@@ -12,7 +12,7 @@ use Rattle.day.specs.Profit.{profit_by}
 use Rattle.model.specs.Best.{best_by}
 use Rattle.cases.specs.Refusals.{refusal9, refusal10, first_of, tests}
 use Rattle.model.specs.Answers.{judged, Scheduling, planned}
-use Rattle.quantities.specs.Outcomes.{Outcome, Refused}
+use Rattle.cases.specs.Reads.{Outcome, Refused}
 use Rattle.quantities.specs.declared.Refusal.{Refusal}
 
 -- what a call by a curve answers, and the lent numbers of the table as it leaves them

@@ -14,7 +14,7 @@ use Rattle.model.specs.Best.{best_day}
 use Rattle.cases.specs.Layout.{listed}
 use Rattle.cases.specs.Refusals.{refusal10}
 use Rattle.cases.specs.Reads.{Writing, read_of}
-use Rattle.quantities.specs.Outcomes.{Outcome, Refused}
+use Rattle.cases.specs.Reads.{Outcome, Refused}
 
 -- the bytes of a text of ASCII characters
 abbrev pub ascii : String → List ℕ

@@ -43,7 +43,7 @@ use Rattle.day.proofs.PricesLaws.{keeps_prices}
 use Rattle.promises.proofs.PricesLaws.{profit_of_gain, profit_by_gain, gain_no_lower, gain_apart}
 use Rattle.promises.proofs.PricesLaws.{best_no_lower, best_regret, best_raised, best_raised_at, earns_half_way}
 use Rattle.promises.proofs.PricesLaws.{best_half_way}
-use Rattle.quantities.specs.Outcomes.{Accepted}
+use Rattle.cases.specs.Reads.{Accepted}
 use Rattle.std.specs.Prelude.{Result}
 use Rattle.quantities.specs.declared.Refusal.{Refusal}
 

@@ -22,7 +22,7 @@ use Rattle.promises.specs.Days.{case7, known_days, Answered}
 use Rattle.cases.specs.Promises.{Promises as CasesPromises}
 use Rattle.day.specs.Promises.{Promises as DayPromises}
 use Rattle.model.specs.Promises.{Promises as ModelPromises}
-use Rattle.quantities.specs.Outcomes.{Accepted}
+use Rattle.cases.specs.Reads.{Accepted}
 
 pub record Promises : Type 0 where
   -- ---- those of each crate below

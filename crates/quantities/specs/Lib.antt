@@ -1,3 +1,2 @@
 -- What a wrapped number has room for.
 pub mod Widths
-pub mod Outcomes

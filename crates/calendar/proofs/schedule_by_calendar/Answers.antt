@@ -2,7 +2,7 @@
 -- the search of the day.
 use borrow.Author.Rules.{rules}
 use mathlib.Core.Path.{◌≡◌, sym, ap, ◌∙◌}
-use Rattle.quantities.specs.Outcomes.{Accepted, Refused}
+use Rattle.cases.specs.Reads.{Accepted, Refused}
 use Rattle.std.specs.Prelude.{Err}
 use Rattle.cases.specs.Layout.{with_arrays}
 use Rattle.model.specs.Answers.{schedule_of}

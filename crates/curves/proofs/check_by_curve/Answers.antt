@@ -6,7 +6,7 @@ use mathlib.Core.Path.{◌≡◌, sym, ap, ◌∙◌}
 use lib.ListN.{drop, length-take}
 use mathlib.Core.List.{◌++◌}
 use Rattle.std.specs.Prelude.{Err}
-use Rattle.quantities.specs.Outcomes.{Accepted}
+use Rattle.cases.specs.Reads.{Accepted}
 use Rattle.curve.specs.Cost.{costs_length, curved_of, record_of, Usable, table_of}
 use Rattle.curve.proofs.HeldLaws.{kind_held}
 use Rattle.model.specs.Curves.{check_by_curve_of}

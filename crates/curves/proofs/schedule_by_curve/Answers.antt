@@ -8,7 +8,7 @@ use lib.ListN.{length, drop, length-take}
 use mathlib.Core.List.{◌++◌}
 use mathlib.Core.Logic.{◌⊎◌, inl, inr}
 use Rattle.std.specs.Prelude.{Err}
-use Rattle.quantities.specs.Outcomes.{Accepted}
+use Rattle.cases.specs.Reads.{Accepted}
 use Rattle.curve.specs.Cost.{costs_length, curved_of, record_of, Usable, table_of}
 use Rattle.curve.proofs.HeldLaws.{kind_held}
 use Rattle.cases.specs.Symbols.{last}
