@@ -6,7 +6,7 @@
 ghost use Rattle.std.specs.Prelude.{◌≡◌};
 ghost use Rattle.cases.specs.Reads.{Accepted};
 ghost use Rattle.cases.specs.Refusals.{work_length};
-ghost use Rattle.cases.specs.Reads.{outcome_number, read_of, write_of};
+ghost use Rattle.cases.specs.Reads.{read_of, write_of};
 ghost use Rattle.model.specs.Answers.{check_of, schedule_of};
 ghost use Rattle.model.specs.Compared.{compared_of};
 ghost use Rattle.model.specs.Calendar.{calendar_of};
@@ -61,22 +61,12 @@ pub struct GiqapsunChoice {
     pub profit: HalfMills,
 }
 
-// The number of a refusal, or 0: a function, since an `impl` of `From` for a number of another crate is refused.
-fn number_out(outcome: Result<(), Refusal>) -> u32
-    ensures { result ≡ outcome_number outcome }
-{
-    match outcome {
-        Ok(()) => 0,
-        Err(refusal) => u32::from(refusal.0),
-    }
-}
-
 impl From<Reading> for GiqapsunReading {
     ghost from_gives = { λ reading out. out ≡ reading_out reading };
 
     fn from(reading: Reading) -> Self {
         GiqapsunReading {
-            number: number_out(reading.outcome),
+            number: u32::from(limits::number(reading.outcome)),
             case: reading.case,
         }
     }
@@ -274,7 +264,7 @@ pub extern "C" fn giqapsun_table_4(kind: u16, curve: Curve, table: &mut [i64]) -
     let Some(known) = costs::kind_of(kind, curve) else {
         return 16;
     };
-    number_out(costs::fill_table(known, table))
+    u32::from(limits::number(costs::fill_table(known, table)))
 }
 
 // The verdict of a list with a record, by a curve. The table is filled unless the call is refused.

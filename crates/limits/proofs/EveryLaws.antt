@@ -1,6 +1,6 @@
 -- A test of a list's first entries, by the library's word and by the definitions': what stands for an entry past the
 -- end passes. Assumes nothing.
-use Rattle.std.proofs.Common.{◌≡◌, ◌∙◌, refl, sym, ℕ, zero, suc, Bool, true, false, List, [], ◌∷◌, get_or, take}
+use Rattle.std.proofs.Common.{◌≡◌, ◌+◌, ◌∙◌, refl, sym, ap, arith, ℕ, zero, suc, Bool, true, false, List, [], ◌∷◌, get_or, take}
 use mathlib.Core.Bool.{◌&&◌}
 use Rattle.std.proofs.Math.Bool.{and-true}
 use Rattle.std.specs.List.{list_all}
@@ -17,6 +17,9 @@ module _ {X : Type 0} (p : X → Bool) (d : X) (ok : p d ≡ true) where
   all_more [] (suc n) = sym ok
   all_more (x ∷ l) zero = and-true (p x)
   all_more (x ∷ l) (suc n) = after (p x) _ _ _ (all_more l n)
+
+  pub all_next : (l : List X) (n : ℕ) → list_all p (take (n + 1) l) ≡ (list_all p (take n l) && p (get_or l n d))
+  all_next l n = let e : n + 1 ≡ suc n = omega arith in ap (λ m. list_all p (take m l)) e ∙ all_more l n
 
   pub all_every : (f : ℕ → Bool) (l : List X) → ((i : ℕ) → p (get_or l i d) ≡ f (suc i))
       → (n : ℕ) → list_all p (take n l) ≡ every f n

@@ -1,5 +1,5 @@
-// The refusals of a record, 2 to 8 and 13: one test for each number, and the first that applies; and how many numbers
-// its search works in (cases' specs/Refusals).
+// The refusals of a record, 2 to 8 and 13: one test for each number, and the first that applies; how many numbers its
+// search works in (cases' specs/Refusals); and the number of an outcome (cases' specs/Reads).
 #![tactic(auto)]
 
 mod counted;
@@ -11,6 +11,7 @@ ghost use Rattle.cases.specs.Symbols.{every, stage};
 ghost use Rattle.cases.specs.Refusals.{within, amounts, refusal2, refusal3, refusal4, refusal5, refusal6, refusal7};
 ghost use Rattle.cases.specs.Refusals.{refusal8, refusal13, climbs, descends, opens_free, opens_up, opens_down};
 ghost use Rattle.cases.specs.Refusals.{work_length, refusal_of};
+ghost use Rattle.cases.specs.Reads.{outcome_number};
 ghost use Rattle.limits.specs.Steps.{stepped};
 
 use crate::counted::Counted;
@@ -199,7 +200,11 @@ fn refusal7(counted: &Counted<'_>) -> bool
 fn ordered(orders: &[u8]) -> bool
     ensures { result ≡ list_all (λ order. leb order most_order) orders.now }
 {
-    orders.iter().all(|order| *order <= MOST_ORDER)
+    let mut so = true;
+    for order in orders {
+        so &= *order <= MOST_ORDER;
+    }
+    so
 }
 
 // The order bytes of the day.
@@ -216,7 +221,11 @@ fn refusal8(counted: &Counted<'_>) -> bool
 fn bounded(prices: &[Mills]) -> bool
     ensures { result ≡ list_all (λ price. amounts (neg_ℤ (pos most_price)) (pos most_price) price.0) prices.now }
 {
-    prices.iter().all(|price| amounts(*price, Mills(-MOST_PRICE), Mills(MOST_PRICE)))
+    let mut so = true;
+    for price in prices {
+        so &= amounts(*price, Mills(-MOST_PRICE), Mills(MOST_PRICE));
+    }
+    so
 }
 
 // The prices of the day.
@@ -270,4 +279,14 @@ pub fn tested(case: &Case) -> Result<(), Refusal>
     refuse(refusal8(&counted), 8)?;
     refuse(refusal13(&counted), 13)?;
     Ok(())
+}
+
+// The number of a refusal; 0 where there is none.
+pub fn number(outcome: Result<(), Refusal>) -> u8
+    ensures { result ≡ outcome_number outcome }
+{
+    match outcome {
+        Ok(()) => 0,
+        Err(refusal) => refusal.0,
+    }
 }
