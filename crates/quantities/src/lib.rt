@@ -34,7 +34,7 @@ impl Hour {
         Hour(self.0 + 1)
     }
 
-    // This many hours less another, or 0: a name for the number's own, which is called at ten places.
+    // This many hours less another, or 0: a name for the number's own, which many places call.
     pub fn less(self, by: Hour) -> Hour
         ensures { result.0 ≡ self.0 - by.0 }
     {
