@@ -8,12 +8,12 @@ use Rattle.choices.proofs.choose_run.Goals.{else-eq-via-then-eq+else-eq-2, else-
 
 pub offered-requires : goal.offered-requires
 offered-requires c =
-    let (w, x, side) = c.requires.across in
+    let (w, x, e) = c.requires.across in
     let z : c.args.j.0 ≡ 0 = search rules in
     record {
       p_bound = (
         rw c.sunk_at-q.ensures (sunk_sum c.args.hour.now.fit c.args.r.0 1 c.requires.minimum_le_r.1),
-        rw (c.fallen_worth-v.ensures w (side z)) (worth_abs x.sized _),
+        rw (e z) (worth_abs x.sized _),
       );
     }
 
@@ -23,11 +23,11 @@ returns-then-eq-2 c =
     let (lo, hi) = c.requires.minimum_le_r in
     let z : c.args.j.0 ≡ 0 = search rules in
     let m : c.args.r.0 ≡ hour.unit.minimum.0 = search rules in
-    λ w x side. c.better.ensures
+    λ w x e. c.better.ensures
     ∙ rw (
       c.lone.ensures,
       c.offered.ensures,
-      c.fallen_worth-v.ensures w (side z),
+      e z,
       c.sunk_at-q.ensures,
       c.across-on.ensures w c.args.j.0 x,
     )
@@ -41,5 +41,5 @@ returns-else-eq c =
     let stays : leaves hour.unit c.args.r.0 c.args.j.0 ≡ false =
     elim c.else-eq.branch
     [ else-eq-via-then-eq+else-eq-2 b ↦ search rules | else-eq-via-else-eq b ↦ search rules ] in
-    λ w x side. c.across-on.ensures w c.args.j.0 x
+    λ w x e. c.across-on.ensures w c.args.j.0 x
     ∙ chosen_stay hour.fit hour.fair x.sized c.args.r c.args.j lo hi stays

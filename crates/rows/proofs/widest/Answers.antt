@@ -5,5 +5,5 @@ use Rattle.rows.proofs.widest.Goals as goal
 
 pub returns-then-is_empty : goal.returns-then-is_empty
 returns-then-is_empty c =
-    let none : length c.args.hour.now.costs.now ≡ 0 = search rules in
+    let none : length c.args.costs.now ≡ 0 = search rules in
     swept_of_windowed _ none c.window.ensures
