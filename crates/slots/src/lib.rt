@@ -135,14 +135,24 @@ pub fn save_if(
 }
 
 // The first kept layer that is not before hour k, or the end of the day; its hour is returned.
-fn base_layer(passed: &Passed<'_>, k: Hour, row: &mut [i64; ROW], side: &mut [i64; SIDE]) -> Hour
-    requires k_le_hours { k.0 ≤ passed.now.day.unit.hours.0 }
-    ensures { Based passed.now.day.unit (tariffs passed.now.day) k.0 result.0 row.new side.new }
+pub fn base_layer(
+    u: Unit,
+    k: Hour,
+    l: Hour,
+    n: usize,
+    work: &[i64],
+    row: &mut [i64; ROW],
+    side: &mut [i64; SIDE],
+) -> Hour
+    requires fit { Fit u }
+    requires k_le_hours { (k.0 ≤ u.hours.0) × (Slotted u l.0 n (length work.now)) }
+    requires u_in_bounds { (cells_of u ≤ length row.old) × (length side.old ≡ side_length) }
+    ensures { (day : ℕ → Tariff) → Saved u day l.0 n 0 work.now
+        → Based u day k.0 result.0 row.new side.new }
 {
-    let u = passed.day.unit;
-    let slot = slot_from(k, passed.stride);
+    let slot = slot_from(k, l);
     if slot.hour < u.hours {
-        load_layer(u, slot.number * passed.width, passed.work, row, side);
+        load_layer(u, slot.number * n, work, row, side);
         return slot.hour;
     }
     rows::end_row(u, row);
@@ -173,6 +183,14 @@ pub fn layer_at(passed: &Passed<'_>, k: Hour, row: &mut [i64; ROW], side: &mut [
     requires k_le_hours { k.0 ≤ passed.now.day.unit.hours.0 }
     ensures { Layer passed.now.day.unit (worth passed.now.day.unit (tariffs passed.now.day) k.0) row.new side.new }
 {
-    let h = base_layer(passed, k, row, side);
+    let h = base_layer(
+        passed.day.unit,
+        k,
+        passed.stride,
+        passed.width,
+        passed.work,
+        row,
+        side,
+    );
     descend(&passed.day, h, k, passed.entries, row, side);
 }
