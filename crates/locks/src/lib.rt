@@ -18,7 +18,7 @@ use slots::passed::Passed;
 
 // What is kept of the hours ahead: rows of a lock, by the hour at which it ends, or layers, where that is 0; the hour
 // before which they end; and their numbers.
-#[derive(Drop)]
+#[derive(Clone, Copy)]
 pub struct Held {
     pub end: Hour,
     pub to: Hour,
