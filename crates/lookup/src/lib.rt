@@ -6,21 +6,21 @@
 
 ghost use Rattle.std.specs.Prelude.{◌≡◌, ℕ, ◌+◌, ◌-◌, ◌≤◌, ◌<◌, length};
 ghost use Rattle.machine.specs.Search.{choice_at};
-ghost use Rattle.machine.specs.Moves.{tariff_of, Tariff, machine, worth, chosen, Worths};
+ghost use Rattle.machine.specs.Moves.{Tariff, machine, worth, chosen, Worths};
 ghost use Rattle.machine.specs.Fit.{Fair};
 ghost use Rattle.machine.specs.Proper.{Proper};
 ghost use Rattle.cells.specs.Ahead.{tariff, tariffs};
 ghost use Rattle.cells.specs.Picks.{pick_of};
 ghost use Rattle.cells.specs.Table.{Sized, Ahead, entry, lock_of, cells_of};
 ghost use Rattle.machine.specs.Lengths.{side_length, most_places};
-ghost use Rattle.slots.specs.Saved.{RowAt, SavedAt};
+ghost use Rattle.slots.specs.Saved.{RowAt, SavedAt, Slotted, Saved};
 ghost use Rattle.locks.specs.Locked.{lock_end};
 ghost use Rattle.locks.specs.Held.{Free, Ready};
 
 use cells::Pick;
 use cells::ahead::HourAhead;
 use locks::Held;
-use machine::{PLACE, ROW, SIDE, State, Terms};
+use machine::{PLACE, ROW, SIDE, State};
 use quantities::{HalfMills, Hour};
 use slots::passed::Passed;
 
@@ -84,39 +84,40 @@ pub fn from_end(hour: &HourAhead<'_>, s: State, e: HalfMills) -> Pick
 }
 
 // From the layer of hour k, in its slot or among those that are kept, or from the end of the day, where no lock goes
-// beyond the hour; the terms are those of the hour before. It takes terms and no hour: that an hour has the unit of the
-// day would be one more thing to ask for.
-fn from_after(
-    passed: &Passed<'_>,
-    terms: Terms,
+// beyond the hour; the hour is the one before, and the slots are those of `stride`, `width` and `work`, as `Passed` has
+// them.
+pub fn from_after(
+    hour: &HourAhead<'_>,
     k: Hour,
     s: State,
     held: &Held,
+    stride: Hour,
+    width: usize,
+    work: &[i64],
     e: HalfMills,
 ) -> Pick
-    requires fair { (Fair (tariff_of terms passed.now.day.costs.now)) × (Proper passed.now.day.unit s)
-        × (k.0 ≤ passed.now.day.unit.hours.0) × (lock_end passed.now.day.unit k.0 (lock_of s - 1) ≤ k.0) }
-    requires few { held.now.to.0 ≤ k.0 + most_places }
-    requires free { (Free passed.now.day.unit (tariffs passed.now.day) passed.now.stride.0 k.0 held.now.to.0
-        held.now.numbers)
-        × (e.0 ≡ entry passed.now.day.unit (worth passed.now.day.unit (tariffs passed.now.day) k.0)) }
-    ensures { result ≡ pick_of (chosen passed.now.day.unit (tariff_of terms passed.now.day.costs.now)
-        (worth passed.now.day.unit (tariffs passed.now.day) k.0) s) }
+    requires proper { (Proper hour.now.unit s) × (k.0 ≤ hour.now.unit.hours.0)
+        × (lock_end hour.now.unit k.0 (lock_of s - 1) ≤ k.0) }
+    requires slotted { (Slotted hour.now.unit stride.0 width (length work.now))
+        × (held.now.to.0 ≤ k.0 + most_places) }
+    requires by_index { (day : ℕ → Tariff) × ((i : ℕ) → Fair (day i))
+        × Saved hour.now.unit day stride.0 width 0 work.now
+        × Free hour.now.unit day stride.0 k.0 held.now.to.0 held.now.numbers
+        × (e.0 ≡ entry hour.now.unit (worth hour.now.unit day k.0)) }
+    ensures { (day : ℕ → Tariff) → ((i : ℕ) → Fair (day i)) → Saved hour.now.unit day stride.0 width 0 work.now
+        → Free hour.now.unit day stride.0 k.0 held.now.to.0 held.now.numbers
+        → e.0 ≡ entry hour.now.unit (worth hour.now.unit day k.0)
+        → result ≡ pick_of (chosen hour.now.unit (tariff hour.now) (worth hour.now.unit day k.0) s) }
 {
-    let hour = HourAhead {
-        unit: passed.day.unit,
-        terms,
-        costs: passed.day.costs,
-    };
-    if k < passed.day.unit.hours {
-        let slot = slots::slot_from(k, passed.stride);
+    if k < hour.unit.hours {
+        let slot = slots::slot_from(k, stride);
         if slot.hour == k {
-            return from_slot(&hour, s, slot.number * passed.width, passed.work, e);
+            return from_slot(hour, s, slot.number * width, work, e);
         }
         let at = (held.to.0 - k.0 - 1) as usize;
-        return from_slot(&hour, s, at * PLACE, &held.numbers, e);
+        return from_slot(hour, s, at * PLACE, &held.numbers, e);
     }
-    from_end(&hour, s, e)
+    from_end(hour, s, e)
 }
 
 // The choice of hour k in any state; what is kept is what it looks at.
@@ -135,5 +136,14 @@ pub fn choose(passed: &Passed<'_>, k: Hour, s: State, held: &Held) -> Pick
         let at = (held.to.0 - after.0 - 1) as usize;
         return from_row(&hour, s, at * PLACE, &held.numbers, e);
     }
-    from_after(passed, hour.terms, after, s, held, e)
+    from_after(
+        &hour,
+        after,
+        s,
+        held,
+        passed.stride,
+        passed.width,
+        passed.work,
+        e,
+    )
 }

@@ -1,7 +1,5 @@
 -- `lookup::choose` meets its contract, by where it looks. Assumes nothing.
-use Rattle.std.proofs.Common.{rules, arith, refl, sym, ap, ◌∙◌, ◌≡◌, ◌<◌, ◌≤◌, suc}
-use Rattle.machine.specs.declared.Terms.{Terms}
-use Rattle.machine.specs.Moves.{tariff_of}
+use Rattle.std.proofs.Common.{rules, arith, refl, sym, ◌∙◌, ◌≡◌, ◌<◌, ◌≤◌, suc}
 use Rattle.cells.proofs.Ends.{sized_at}
 use Rattle.cells.specs.Ahead.{tariff, tariffs}
 use Rattle.cells.specs.Table.{lock_of}
@@ -42,12 +40,16 @@ returns-then-lt c =
     ∙ choice_told u hour.unit (tariffs p.day) (tariff hour) c.args.k.0 n c.args.s same.unit told after
 
 -- the layer after the hour, where no lock goes beyond it
-pub from_after-requires-clause-free : goal.from_after-requires-clause-free
-from_after-requires-clause-free c =
+pub from_after-requires-clause-by_index : goal.from_after-requires-clause-by_index
+from_after-requires-clause-by_index c =
     let p = c.args.passed.now in
     let n = c.next-after.result.0 in
     let after : n ≡ suc c.args.k.0 = omega arith in
-    let past : c.end_of-b.result.0 ≤ n = search rules in (
+    let past : c.end_of-b.result.0 ≤ n = search rules in
+    rw c.at-hour.ensures.unit (
+      tariffs p.day,
+      p.day.day.fair,
+      p.saved,
       free_at p.day.unit (tariffs p.day) p.stride.0 _ _ (sym after)
           (c.requires.ready.free (omega (arith, past, c.end_of-b.ensures))),
       c.value_at-e.ensures ∙ p.entered.at n (omega arith) (omega (arith, c.requires.k_lt_hours.0)),
@@ -56,7 +58,13 @@ from_after-requires-clause-free c =
 pub returns : goal.returns
 returns c =
     let p = c.args.passed.now in
-    let after : c.next-after.result.0 ≡ suc c.args.k.0 = omega arith in
-    c.from_after.ensures
-    ∙ choice_told p.day.unit p.day.unit (tariffs p.day) _ c.args.k.0 _ c.args.s refl
-    (ap (λ (t : Terms). tariff_of t p.day.costs.now) c.at-hour.ensures.terms) after
+    let u = p.day.unit in
+    let same = c.at-hour.ensures in
+    let n = c.next-after.result.0 in
+    let after : n ≡ suc c.args.k.0 = omega arith in
+    let past : c.end_of-b.result.0 ≤ n = search rules in
+    let free = free_at u (tariffs p.day) p.stride.0 _ _ (sym after)
+    (c.requires.ready.free (omega (arith, past, c.end_of-b.ensures))) in
+    let e = c.value_at-e.ensures ∙ p.entered.at n (omega arith) (omega (arith, c.requires.k_lt_hours.0)) in
+    (rw (same.unit, same.terms, same.costs) at c.from_after.ensures) (tariffs p.day) p.day.day.fair p.saved free e
+    ∙ choice_told u u (tariffs p.day) _ c.args.k.0 n c.args.s refl refl after
