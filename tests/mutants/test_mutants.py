@@ -129,6 +129,29 @@ class Brought(unittest.TestCase):
         self.assertIsNone(text)
 
 
+class Copies(unittest.TestCase):
+    """What a scratch copy has."""
+
+    def test_crates_below(self):
+        listed = (mutants.ROOT / "crates.txt").read_text(encoding="utf-8").splitlines()
+        uses = dict(line.split(":") for line in listed if not line.startswith("#"))
+        for crate, below in mutants.BELOW.items():
+            with self.subTest(crate):
+                self.assertEqual(set(below), set(uses[crate].split()))
+
+    def test_no_function(self):
+        with tempfile.TemporaryDirectory() as folder:
+            scratch = mutants.Scratch.__new__(mutants.Scratch)
+            scratch.home = pathlib.Path(folder)
+            (scratch.home / "src").mkdir()
+            for name, text in (("lib", "pub mod kinds;\npub mod records;\n"), ("kinds", "pub struct Kind;\n")):
+                (scratch.home / f"src/{name}.rt").write_text(text, encoding="utf-8")
+            (scratch.home / "src/records.rt").write_text("pub fn of() {}\n", encoding="utf-8")
+            scratch.leave_out_functions()
+            self.assertEqual(sorted(path.name for path in (scratch.home / "src").iterdir()), ["kinds.rt", "lib.rt"])
+            self.assertEqual((scratch.home / "src/lib.rt").read_text(encoding="utf-8"), "pub mod kinds;\n")
+
+
 class Verdict(unittest.TestCase):
     """What the check printed."""
 
