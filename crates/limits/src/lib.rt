@@ -281,7 +281,7 @@ pub fn tested(case: &Case) -> Result<(), Refusal>
     Ok(())
 }
 
-// The number of a refusal; 0 where there is none.
+// The number of a refusal; 0 where there is none, as the C interface tells it.
 pub fn number(outcome: Result<(), Refusal>) -> u8
     ensures { result ≡ outcome_number outcome }
 {

@@ -84,8 +84,8 @@ pub fn from_end(hour: &HourAhead<'_>, s: State, e: HalfMills) -> Pick
 }
 
 // From the layer of hour k, in its slot or among those that are kept, or from the end of the day, where no lock goes
-// beyond the hour; the hour is the one before, and the slots are those of `stride`, `width` and `work`, as `Passed` has
-// them.
+// beyond the hour; the hour is the one before. What it says holds of every day whose layers are saved, so it takes the
+// slots, by `stride`, `width` and `work`, and no pass, which has one day.
 pub fn from_after(
     hour: &HourAhead<'_>,
     k: Hour,
