@@ -1,7 +1,7 @@
 // The lowest rule that an hour breaks; 0 where it breaks none, as in day's `broken_at`: no Option. The rules stand in
 // groups, the later ones first: each group is given the number of those after it (specs/Groups). Only other crates of
-// this repository call what has a `requires` or takes an hour here, with a case within the limits and the numbers of the
-// hour.
+// this repository call what has a `requires` or takes an hour here, with a case within the limits and the hour's
+// numbers.
 #![tactic(auto)]
 
 pub mod limits;

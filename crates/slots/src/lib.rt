@@ -134,8 +134,8 @@ pub fn save_if(
     }
 }
 
-// The first kept layer that is not before hour k, or the end of the day; its hour is returned. What it says holds of every
-// day whose layers are saved, so it takes the slots, and no pass, which has one day.
+// The first kept layer that is not before hour k, or the end of the day; its hour is returned. What it says holds of
+// every day whose layers are saved, so it takes the slots, and no pass, which has one day.
 pub fn base_layer(
     u: Unit,
     k: Hour,
